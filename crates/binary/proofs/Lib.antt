@@ -1,0 +1,5 @@
+pub mod Bits
+pub mod Rows
+pub mod Tests
+pub mod Classes
+pub mod Elimination

@@ -1,0 +1,25 @@
+-- Bits: the field of two elements, and finite tests.
+--   _⊕_      the sum of two bits, modulo 2
+--   below    a test that passes at every number below n
+--   tally    how many numbers below n pass a test
+use mathlib.Core.Bool.{Bool, true, false, _&&_}
+use Prim.Native.Nat.{ℕ, zero, suc}
+
+infixl 40 _⊕_
+abbrev pub _⊕_ : Bool → Bool → Bool
+true ⊕ true = false
+true ⊕ false = true
+false ⊕ b = b
+
+abbrev pub below : ℕ → (ℕ → Bool) → Bool
+below zero f = true
+below (suc n) f = f n && below n f
+
+-- One more where the bit is 1.
+abbrev pub count : Bool → ℕ → ℕ
+count true n = suc n
+count false n = n
+
+abbrev pub tally : ℕ → (ℕ → Bool) → ℕ
+tally zero f = 0
+tally (suc n) f = count (f n) (tally n f)

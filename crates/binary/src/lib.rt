@@ -1,0 +1,1 @@
+// Binary linear algebra.
