@@ -1,3 +1,4 @@
 pub mod Bits
 pub mod Meaning
 pub mod Classes
+pub mod Packed

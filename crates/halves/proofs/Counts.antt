@@ -168,10 +168,10 @@ Unsettled mark q = isSettled mark q ≡ false
 
 abbrev pub BlankAt : Stage → Type 0
 BlankAt (on st) = Zero (Unsettled (st .mark)) (st .forms)
-BlankAt (failed st) = Zero (Unsettled (st .mark)) (st .forms)
+BlankAt (failed st) = st .forms ≡ blank
 
 blank-stage : (mark : ℕ → ℕ) (turns : ℕ) (r : Option Forms) → Zeros (Unsettled mark) r → BlankAt (stage mark turns r)
-blank-stage mark turns none h = λ q z k. refl
+blank-stage mark turns none h = refl
 blank-stage mark turns (some fs) h = h
 
 module _ (checks : List Check) (n : ℕ) (choose : Qubits → Option ℕ) where

@@ -18,7 +18,7 @@ use Rattle.halves.specs.Words.{finished?}
 use Rattle.halves.specs.Machine.{Form, Forms, blank, State, Stage, on, failed, End, Half, readings, checks, fixedOf, ruleOf, startOf, decoded, run, start, startMark, isOpen, closed?, dangling, degree, takeUpAll, stage, turn, turnBy, noneOpen}
 use Rattle.halves.specs.Fillings.{filling, Filling}
 use Rattle.halves.specs.Report.{Shown, shown, outcome, none?}
-use Rattle.halves.specs.Demands.{Obeys, FitsHalf, Verdict, VerdictLaw, fills, Fillings, FillingsLaw, Classes, ClassesLaw, BudgetsLaw, turnOf, turned, stageOf, Counts, CountsLaw}
+use Rattle.halves.specs.Demands.{Obeys, FitsHalf, Verdict, VerdictLaw, fills, Fillings, FillingsLaw, Classes, ClassesLaw, BudgetsLaw, turnOf, turned, stageOf, Counts, CountsLaw, Emptied, EmptiedLaw}
 use Rattle.halves.proofs.Settling.{Invariant}
 use Rattle.halves.proofs.Runs.{Rule, turnsOf, Said, turn-either, run-keeps, run-said}
 use Rattle.halves.proofs.Stages.{Good, Closed, turn-good, start-good}
@@ -264,6 +264,10 @@ module _ (h : Half) (budget limit : ℕ) where
   unfolding decoded
   keeps P turns begins = run-keeps (checks h) (h .size) (ruleOf h) budget limit P turns (suc limit) (startOf h) begins
 
+half-blank : (h : Half) (budget limit : ℕ) → BlankAt (stageOf (decoded h budget limit))
+half-blank h budget limit =
+    keeps h budget limit BlankAt (blank-turn (checks h) (h .size) (ruleOf h)) (blank-start (checks h) (h .lost) (fixedOf h))
+
 -- What holds of a stage by its state alone holds of the state that a half ended in.
 of-state : (P : State → Type 0) (Q : Stage → Type 0) → ((st : State) → Q (on st) → P st) → ((st : State) → Q (failed st) → P st)
     → (e : End) → Q (stageOf e) → P (e .state)
@@ -282,8 +286,7 @@ counts h obeys budget limit =
       left = counted .open-left;
       unlost = counted .unlost;
       fixed = counted .is-fixed;
-      blank = of-state (λ st. BlankAt (on st)) BlankAt (λ st b. b) (λ st b. b) e
-          (keeps h budget limit BlankAt (blank-turn (checks h) (h .size) (ruleOf h)) (blank-start (checks h) (h .lost) (fixedOf h)));
+      blank = of-state (λ st. BlankAt (on st)) BlankAt (λ st b. b) (λ st b q z k. ap (λ (fs : Forms). fs .form q k) b) e (half-blank h budget limit);
     }
   where
     e : End
@@ -305,3 +308,23 @@ counts h obeys budget limit =
         by : (b : Bool) → none? (e .word) ≡ b → turnsOf (stageOf e) ≡ e .state .turns
         by true i = rw i
         by false i = rw i
+
+----------------------------------------------------------------------
+-- Lists
+
+pub emptied : EmptiedLaw
+unfolding EmptiedLaw shown
+emptied h budget limit =
+    record {
+      none-live = λ i. none-live (e .word) (e .state) i (half-blank h budget limit);
+      none-marks = λ i q. rw (ap none? i);
+      none-forms = λ i q k. rw (ap none? i);
+      unfinished = λ i q. rw i;
+    }
+  where
+    e : End
+    e = decoded h budget limit
+
+    none-live : (w : Word) (st : State) → w ≡ None → BlankAt (stageOf (record { word = w; state = st })) → st .forms .live ≡ 0
+    none-live w st i b =
+        let c : BlankAt (failed st) = subst (λ (x : Word). BlankAt (stageOf (record { word = x; state = st }))) i b in ap (λ (fs : Forms). fs .live) c

@@ -4,7 +4,8 @@
 --   Fillings     demand 3: live guesses and fillings
 --   Classes      demand 3: fillings and classes, when no qubit is open
 --   Counts       the turns made are the machine's turns; the counts are those of the marks
---   VerdictLaw, FillingsLaw, ClassesLaw, CountsLaw: each half of a code and a shot that obey, with any budget and limit, is so
+--   Emptied      what is 0 after none, and after spent and stopped
+--   VerdictLaw, FillingsLaw, ClassesLaw, CountsLaw, EmptiedLaw: each half of a code and a shot that obey, with any budget and limit, is so
 --   BudgetsLaw   demand 3: two decodes of the same code and shot, the second with a budget and a limit no smaller
 use mathlib.Core.Path.{_≡_}
 use mathlib.Core.Bool.{Bool, true, false, not, _&&_}
@@ -125,3 +126,16 @@ pub record Counts (h : Half) (e : End) : Type 0 where
 
 unfoldable pub CountsLaw : Type 0
 CountsLaw = (h : Half) → Obeys h → (budget limit : ℕ) → Counts h (decoded h budget limit)
+
+----------------------------------------------------------------------
+-- Lists
+
+-- After none all three lists are 0, and live is 0; after spent and stopped the correction is.
+pub record Emptied (s : Shown) : Type 0 where
+  pub none-live : s .report .word ≡ None → s .report .live ≡ 0
+  pub none-marks : s .report .word ≡ None → (q : ℕ) → s .mark q ≡ 0
+  pub none-forms : s .report .word ≡ None → (q k : ℕ) → s .form q k ≡ false
+  pub unfinished : finished? (s .report .word) ≡ false → (q : ℕ) → s .flip q ≡ false
+
+unfoldable pub EmptiedLaw : Type 0
+EmptiedLaw = (h : Half) (budget limit : ℕ) → Emptied (outcome h budget limit)

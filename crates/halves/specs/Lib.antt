@@ -4,3 +4,4 @@ pub mod Fillings
 pub mod Report
 pub mod Bench
 pub mod Demands
+pub mod Lists

@@ -1,6 +1,8 @@
 // A half of a shot: its words and its report.
 ghost use mathlib.Core.Path.{_≡_};
 ghost use Rattle.halves.specs.Words.{finished?};
+use code::Qubit;
+use code::Row;
 
 // The five words in which a decode ends for each half.
 pub enum Word {
@@ -18,6 +20,31 @@ pub struct HalfReport {
     pub turns: u16,
     pub guesses: u16,
     pub live: u16,
+}
+
+// What a scan of a row's open qubits finds.
+enum Open {
+    Closed,
+    One(Qubit),
+    More,
+}
+
+// The lowest dangling row and its open qubit.
+enum Dangling {
+    NoRow,
+    At(Row, Qubit),
+}
+
+// The qubit that the guess rule names.
+enum Choice {
+    NoQubit,
+    Named(Qubit),
+}
+
+// What taking up rows comes to: the half ends in none, or so many guesses are live.
+enum Taken {
+    Failed,
+    Live(u16),
 }
 
 // Whether the word is said of a finished half, which has flips.

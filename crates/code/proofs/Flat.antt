@@ -1,0 +1,75 @@
+-- Lists that hold rows end to end. Assumes nothing.
+use mathlib.Core.Path.{_≡_, refl, ap, ap₂, _∙_, subst}
+use mathlib.Core.Logic.{⊎-elim}
+use mathlib.Core.List.{List, [], _∷_, _++_, append-nil}
+use Prim.Native.Nat.{ℕ, zero, suc, _+_, _-_, _<_, _≤_}
+use native.Mathlib.Nat.{zero-add, eq-or-lt-of-le}
+use native.Mathlib.Omega.{arith}
+use lib.ListN.{length, getD, length-append, List·getD-append}
+use lib.Seq.{getD-append-add}
+use Rattle.binary.specs.Meaning.{Row}
+use Rattle.code.specs.Lists.{startOf, rowAt, rowsFrom, rowsBetween, Held, Flat}
+
+----------------------------------------------------------------------
+-- No rows, fewer rows
+
+pub flat-none : (flat ends : List ℕ) → Flat [] flat ends
+flat-none flat ends = record { count = omega arith; held = λ r h. absurd (omega arith) }
+
+pub flat-prefix : (rows more : List Row) (flat ends : List ℕ) → Flat (rows ++ more) flat ends → Flat rows flat ends
+flat-prefix rows more flat ends f =
+    record {
+      count = omega (arith, length-append rows more, f .count);
+      held = λ r h. subst (Held flat ends r) (List·getD-append rows more [] r h) (f .held r (omega (arith, length-append rows more)));
+    }
+
+----------------------------------------------------------------------
+-- The rows that are held
+
+pub flat-row : (rows : List Row) (flat ends : List ℕ) → Flat rows flat ends → (r : ℕ) → r < length rows → rowAt flat ends r ≡ getD rows r []
+flat-row rows flat ends f r h = f .held r h .is
+
+rows-from : (flat ends : List ℕ) (rows : List Row) (r : ℕ) → ((i : ℕ) → i < length rows → rowAt flat ends (r + i) ≡ getD rows i [])
+    → rowsFrom flat ends r (length rows) ≡ rows
+rows-from flat ends [] r h = refl
+rows-from flat ends (row ∷ rows) r h =
+    ap₂ _∷_ (ap (rowAt flat ends) (omega arith) ∙ h 0 (omega arith))
+    (rows-from flat ends rows (suc r) (λ i l. ap (rowAt flat ends) (omega arith) ∙ h (suc i) (omega arith)))
+
+-- A range holds the rows in the middle.
+pub flat-rows : (before rows after : List Row) (flat ends : List ℕ) → Flat (before ++ (rows ++ after)) flat ends
+    → rowsBetween flat ends (length before) (length before + length rows) ≡ rows
+unfolding rowsBetween
+flat-rows before rows after flat ends f =
+    ap (rowsFrom flat ends (length before)) count
+    ∙ rows-from flat ends rows (length before)
+    (λ i l. f .held (length before + i) (within i l) .is ∙ getD-append-add before (rows ++ after) i [] ∙ List·getD-append rows after [] i l)
+  where
+    count : length before + length rows - length before ≡ length rows
+    count = omega arith
+
+    within : (i : ℕ) → i < length rows → length before + i < length (before ++ (rows ++ after))
+    within i l = omega (arith, length-append before (rows ++ after), length-append rows after)
+
+-- The rows of one kind, and after them those of the other.
+pub flat-first : (rows more : List Row) (flat ends : List ℕ) → Flat (rows ++ more) flat ends → rowsBetween flat ends 0 (length rows) ≡ rows
+flat-first rows more flat ends f = rw zero-add at (flat-rows [] rows more flat ends f)
+
+pub flat-second : (before rows : List Row) (flat ends : List ℕ) → Flat (before ++ rows) flat ends
+    → rowsBetween flat ends (length before) (length before + length rows) ≡ rows
+flat-second before rows flat ends f = flat-rows before rows [] flat ends (rw (append-nil rows) f)
+
+----------------------------------------------------------------------
+-- Where they start
+
+module _ (rows : List Row) (flat ends : List ℕ) (f : Flat rows flat ends) where
+  pub start-next : (r : ℕ) → r < length rows → startOf ends (suc r) ≡ startOf ends r + length (getD rows r [])
+  unfolding startOf
+  start-next r h = f .held r h .ends-at
+
+  pub starts-ascend : (r s : ℕ) → r ≤ s → s ≤ length rows → startOf ends r ≤ startOf ends s
+  starts-ascend r zero h l = let first : r ≡ 0 = omega arith in rw first (omega arith)
+  starts-ascend r (suc s) h l =
+      ⊎-elim (λ e. rw e (omega arith))
+      (λ (m : r < suc s). omega (arith, starts-ascend r s (omega arith) (omega arith), start-next s l))
+      (eq-or-lt-of-le h)

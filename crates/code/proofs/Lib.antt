@@ -1,0 +1,6 @@
+pub mod Lists
+pub mod Turns
+pub mod Flat
+pub mod Push
+pub mod Order
+pub mod Sharing

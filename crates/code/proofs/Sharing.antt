@@ -1,0 +1,74 @@
+-- Sharing an odd number of qubits goes both ways, and commuting goes row by row. Assumes nothing.
+use mathlib.Core.Path.{_≡_, refl, sym, ap, ap₂, _∙_, subst, fun-ext}
+use mathlib.Core.Bool.{Bool, true, false, _&&_}
+use mathlib.Core.Logic.{_↔_}
+use mathlib.Core.List.{List, [], _∷_, _++_}
+use Prim.Native.Nat.{ℕ}
+use borrow.Author.Tests.{eq-eqb, eqb-true}
+use lib.Dec.{eqb}
+use lib.ListN.{length}
+use Rattle.binary.specs.Bits.{_⊕_}
+use Rattle.binary.specs.Meaning.{Row, Qubits, All, all?, has, odd, Even, Commute, commute?}
+use Rattle.binary.proofs.Bits.{bit, iff-eq, &&-true}
+use Rattle.binary.proofs.Rows.{odd-sum, odd-none, all-in, all-out}
+use Rattle.code.specs.Lists.{rowsBetween, Flat}
+use Rattle.code.specs.Tests.{Ascending, evenWith?}
+use Rattle.code.proofs.Flat.{flat-first}
+use Rattle.code.proofs.Order.{Distinct, ascending-distinct}
+
+----------------------------------------------------------------------
+-- Symmetry
+
+eqb-swap : (p q : ℕ) → eqb p q ≡ eqb q p
+eqb-swap p q = iff-eq (eqb p q) (eqb q p) (λ e. eq-eqb q p (sym (eqb-true p q e))) (λ e. eq-eqb p q (sym (eqb-true q p e)))
+
+-- One more qubit, which the row has not, is added to its set.
+has-more : (p : ℕ) (row : Row) → has row p ≡ false → (q : ℕ) → has (p ∷ row) q ≡ eqb p q ⊕ has row q
+has-more p row h q = bit (eqb p q) (λ e. rw (e, subst (λ (k : ℕ). has row k ≡ false) (eqb-true p q e) h)) (λ e. rw e)
+
+-- A row without repeats shares with a single qubit just if it has it.
+odd-one : (p : ℕ) (row : Row) → Distinct row → odd (eqb p) row ≡ has row p
+odd-one p [] d = refl
+odd-one p (q ∷ row) d = ap₂ _⊕_ (eqb-swap p q) (odd-one p row (d .1)) ∙ sym (has-more q row (d .0) p)
+
+pub odd-symmetric : (a b : Row) → Distinct a → Distinct b → odd (has a) b ≡ odd (has b) a
+odd-symmetric [] b d e = odd-none b
+odd-symmetric (p ∷ a) b d e =
+    ap (λ (s : Qubits). odd s b) (fun-ext (has-more p a (d .0)))
+    ∙ odd-sum (eqb p) (has a) b
+    ∙ ap₂ _⊕_ (odd-one p b e) (odd-symmetric a b (d .1) e)
+
+----------------------------------------------------------------------
+-- Commuting
+
+-- Of rows that ascend it does not matter which kind comes first.
+pub commute-symmetric : (n : ℕ) (xs zs : List Row) → All (Ascending n) xs → All (Ascending n) zs → Commute zs xs ↔ Commute xs zs
+commute-symmetric n xs zs ax az = (flip xs zs ax az, flip zs xs az ax)
+  where
+    flip : (xs zs : List Row) → All (Ascending n) xs → All (Ascending n) zs → Commute zs xs → Commute xs zs
+    flip xs zs ax az c =
+        all-in (λ x. All (Even x) zs) xs
+        (λ x i. all-in (Even x) zs
+        (λ z j.
+        odd-symmetric z x (ascending-distinct n z (all-out (Ascending n) zs az z j)) (ascending-distinct n x (all-out (Ascending n) xs ax x i))
+        ∙ all-out (Even z) xs (all-out (λ y. All (Even y) xs) zs c z j) x i))
+
+all-append : (f : Row → Bool) (a b : List Row) → all? f (a ++ b) ≡ (all? f a && all? f b)
+all-append f [] b = refl
+all-append f (x ∷ a) b = ap (λ (t : Bool). f x && t) (all-append f a b) ∙ regroup (f x) (all? f a) (all? f b)
+  where
+    regroup : (p q r : Bool) → (p && (q && r)) ≡ (p && q && r)
+    regroup true q r = refl
+    regroup false q r = refl
+
+-- A row more commutes if it is even with each row of the other kind.
+pub commute-more : (zs xs : List Row) (z : Row) → commute? (zs ++ (z ∷ [])) xs ≡ (commute? zs xs && evenWith? xs z)
+unfolding commute? evenWith?
+commute-more zs xs z =
+    all-append (λ r. evenWith? xs r) zs (z ∷ []) ∙ ap (λ (t : Bool). commute? zs xs && t) (&&-true (evenWith? xs z) refl)
+
+-- The same by what the code answers of the rows that the lists hold, the other kind first.
+pub commute-told : (xs zs : List Row) (flat ends : List ℕ) → Flat (xs ++ zs) flat ends → (z : Row) (told : Bool)
+    → told ≡ evenWith? (rowsBetween flat ends 0 (length xs)) z → commute? (zs ++ (z ∷ [])) xs ≡ (commute? zs xs && told)
+commute-told xs zs flat ends f z told e =
+    commute-more zs xs z ∙ ap (λ (t : Bool). commute? zs xs && t) (sym (e ∙ ap (λ (rows : List Row). evenWith? rows z) (flat-first xs zs flat ends f)))

@@ -1,0 +1,165 @@
+// The code: its rows in lent lists, end to end, and the tests of rows.
+ghost use mathlib.Core.Path.{_≡_};
+ghost use Prim.Native.Nat.{ℕ, _+_, _<_, _≤_};
+ghost use lib.ListN.{length, getD};
+ghost use Rattle.binary.specs.Bits.{_⊕_};
+ghost use Rattle.binary.specs.Meaning.{has, odd};
+ghost use Rattle.code.specs.Lists.{startOf, rowAt, rowsBetween};
+ghost use Rattle.code.specs.Push.{written, Pushed};
+ghost use Rattle.code.specs.Tests.{ascending?, evenWith?};
+
+// A qubit's number.
+pub struct Qubit(pub u16);
+
+// A row's number: the X rows from 0 on, then the Z rows.
+pub struct Row(pub u16);
+
+// An element as an index, with its bound.
+fn index(x: u16) -> usize
+    ensures { λ r. ⌜ (r ≡ x) × (r < 65536) ⌝ }
+{
+    x as usize
+}
+
+// Where row r ends; 0 for a row past the ends.
+fn end_of(ends: &[u16], r: Row) -> usize
+    ensures { λ e. ⌜ (e ≡ getD (now (ends .entry)) (r .0) 0) × (e < 65536) ⌝ }
+{
+    let at = r.0 as usize;
+    if ends.len() <= at {
+        return 0;
+    }
+    index(ends[at])
+}
+
+// Where row r starts: at the end of the row before it.
+fn start_of(ends: &[u16], r: Row) -> usize
+    ensures { λ s. ⌜ (s ≡ startOf (now (ends .entry)) (r .0)) × (s < 65536) ⌝ }
+{
+    if r.0 == 0 {
+        return 0;
+    }
+    end_of(ends, Row(r.0 - 1))
+}
+
+// The part of the flat list that row r occupies.
+pub fn row_at<'a>(flat: &'a [u16], ends: &[u16], r: Row) -> &'a [u16]
+    ensures { λ p. ⌜ now p ≡ rowAt (now (flat .entry)) (now (ends .entry)) (r .0) ⌝ }
+{
+    let start = start_of(ends, r);
+    let end = end_of(ends, r);
+    if end < start {
+        return &flat[0..0];
+    }
+    if flat.len() < end {
+        return &flat[0..0];
+    }
+    &flat[start..end]
+}
+
+// The qubits to the list from `start` on.
+fn write(flat: &mut [u16], start: usize, qubits: &[u16])
+    requires { ⌜ start + length (now qubits) ≤ length (now flat) ⌝ }
+    ensures { λ _. ⌜ now (flat .exit) ≡ written (now (flat .entry)) start (now (qubits .entry)) ⌝ }
+{
+    let mut i: usize = 0;
+    while i < qubits.len() {
+        flat[start + i] = qubits[i];
+        i += 1;
+    }
+}
+
+// The qubits as row r, with its end; false, and nothing written, without room.
+pub fn push_row(flat: &mut [u16], ends: &mut [u16], r: Row, qubits: &[u16]) -> bool
+    ensures { λ done. ⌜ Pushed (now (flat .entry)) (now (ends .entry)) (r .0) (now (qubits .entry)) done (now (flat .exit)) (now (ends .exit)) ⌝ }
+{
+    let at = r.0 as usize;
+    if ends.len() <= at {
+        return false;
+    }
+    let start = start_of(ends, r);
+    let end = start + qubits.len();
+    if flat.len() < end {
+        return false;
+    }
+    if 65535 < end {
+        return false;
+    }
+    write(flat, start, qubits);
+    ends[at] = end as u16;
+    true
+}
+
+// Whether the qubits are strictly ascending and below n.
+pub fn ascending(n: u16, qubits: &[u16]) -> bool
+    ensures { λ r. ⌜ r ≡ ascending? n (now (qubits .entry)) ⌝ }
+{
+    let bound = n as usize;
+    let mut least: usize = 0;
+    let mut i: usize = 0;
+    while i < qubits.len() {
+        let q = index(qubits[i]);
+        if q < least {
+            return false;
+        }
+        if bound <= q {
+            return false;
+        }
+        least = q + 1;
+        i += 1;
+    }
+    true
+}
+
+// Whether the row has the qubit.
+fn contains(row: &[u16], q: Qubit) -> bool
+    ensures { λ r. ⌜ r ≡ has (now (row .entry)) (q .0) ⌝ }
+{
+    let mut i: usize = 0;
+    while i < row.len() {
+        if row[i] == q.0 {
+            return true;
+        }
+        i += 1;
+    }
+    false
+}
+
+// The sum of two bits, modulo 2.
+fn sum(a: bool, b: bool) -> bool
+    ensures { λ r. ⌜ r ≡ a ⊕ b ⌝ }
+{
+    if a {
+        return !b;
+    }
+    b
+}
+
+// Whether two rows share an odd number of qubits.
+pub fn share_odd(a: &[u16], b: &[u16]) -> bool
+    ensures { λ r. ⌜ r ≡ odd (has (now (a .entry))) (now (b .entry)) ⌝ }
+{
+    let mut odd = false;
+    let mut i: usize = 0;
+    while i < b.len() {
+        odd = sum(odd, contains(a, Qubit(b[i])));
+        i += 1;
+    }
+    odd
+}
+
+// Whether the qubits share an even number with each of the rows from `from` up to `to`.
+pub fn even_with(flat: &[u16], ends: &[u16], from: Row, to: Row, qubits: &[u16]) -> bool
+    ensures { λ r. ⌜ r ≡ evenWith? (rowsBetween (now (flat .entry)) (now (ends .entry)) (from .0) (to .0)) (now (qubits .entry)) ⌝ }
+{
+    let stop = to.0;
+    let mut r = from.0;
+    while r < stop {
+        let row = row_at(flat, ends, Row(r));
+        if share_odd(row, qubits) {
+            return false;
+        }
+        r += 1;
+    }
+    true
+}
