@@ -3,7 +3,7 @@ use mathlib.Core.Path.{_≡_, refl, ap, ap₂, _∙_, subst}
 use mathlib.Core.Logic.{⊎-elim}
 use mathlib.Core.List.{List, [], _∷_, _++_, append-nil}
 use Prim.Native.Nat.{ℕ, zero, suc, _+_, _-_, _<_, _≤_}
-use native.Mathlib.Nat.{zero-add, eq-or-lt-of-le}
+use native.Mathlib.Nat.{eq-or-lt-of-le}
 use native.Mathlib.Omega.{arith}
 use lib.ListN.{length, getD, length-append, List·getD-append}
 use lib.Seq.{getD-append-add}
@@ -38,25 +38,27 @@ rows-from flat ends (row ∷ rows) r h =
 
 -- A range holds the rows in the middle.
 pub flat-rows : (before rows after : List Row) (flat ends : List ℕ) → Flat (before ++ (rows ++ after)) flat ends
-    → rowsBetween flat ends (length before) (length before + length rows) ≡ rows
+    → (from to : ℕ) → from ≡ length before → to ≡ length before + length rows → rowsBetween flat ends from to ≡ rows
 unfolding rowsBetween
-flat-rows before rows after flat ends f =
-    ap (rowsFrom flat ends (length before)) count
-    ∙ rows-from flat ends rows (length before)
-    (λ i l. f .held (length before + i) (within i l) .is ∙ getD-append-add before (rows ++ after) i [] ∙ List·getD-append rows after [] i l)
+flat-rows before rows after flat ends f from to a b =
+    ap (rowsFrom flat ends from) count
+    ∙ rows-from flat ends rows from
+    (λ i l. ap (λ (k : ℕ). rowAt flat ends (k + i)) a ∙ f .held (length before + i) (within i l) .is
+    ∙ getD-append-add before (rows ++ after) i [] ∙ List·getD-append rows after [] i l)
   where
-    count : length before + length rows - length before ≡ length rows
+    count : to - from ≡ length rows
     count = omega arith
 
     within : (i : ℕ) → i < length rows → length before + i < length (before ++ (rows ++ after))
     within i l = omega (arith, length-append before (rows ++ after), length-append rows after)
 
 -- The rows of one kind, and after them those of the other.
-pub flat-first : (rows more : List Row) (flat ends : List ℕ) → Flat (rows ++ more) flat ends → rowsBetween flat ends 0 (length rows) ≡ rows
-flat-first rows more flat ends f = rw zero-add at (flat-rows [] rows more flat ends f)
+pub flat-first : (rows more : List Row) (flat ends : List ℕ) → Flat (rows ++ more) flat ends
+    → (to : ℕ) → to ≡ length rows → rowsBetween flat ends 0 to ≡ rows
+flat-first rows more flat ends f to e = flat-rows [] rows more flat ends f 0 to refl (omega arith)
 
 pub flat-second : (before rows : List Row) (flat ends : List ℕ) → Flat (before ++ rows) flat ends
-    → rowsBetween flat ends (length before) (length before + length rows) ≡ rows
+    → (from to : ℕ) → from ≡ length before → to ≡ length before + length rows → rowsBetween flat ends from to ≡ rows
 flat-second before rows flat ends f = flat-rows before rows [] flat ends (rw (append-nil rows) f)
 
 ----------------------------------------------------------------------

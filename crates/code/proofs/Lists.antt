@@ -38,6 +38,13 @@ part-none : (l : List ℕ) (s e : ℕ) → e ≤ s → drop s (take e l) ≡ []
 part-none l s e h = let none : e - s ≡ 0 = omega arith in rw (← (part-is l s e), none)
 
 module _ (flat ends : List ℕ) (r s e : ℕ) (starts : s ≡ startOf ends r) (stops : e ≡ getD ends r 0) where
+  pub row-within : e ≤ length flat → drop s (take e flat) ≡ rowAt flat ends r
+  unfolding rowAt
+  row-within h = rw (← starts, ← stops, le-leb e (length flat) h)
+
+  pub row-part : e ≤ length flat → take (e - s) (drop s flat) ≡ rowAt flat ends r
+  row-part h = part-is flat s e ∙ row-within h
+
   pub row-before : e < s → [] ≡ rowAt flat ends r
   unfolding rowAt
   row-before h =
@@ -46,13 +53,6 @@ module _ (flat ends : List ℕ) (r s e : ℕ) (starts : s ≡ startOf ends r) (s
   pub row-past : length flat < e → [] ≡ rowAt flat ends r
   unfolding rowAt
   row-past h = rw (← stops, lt-leb e (length flat) h)
-
-  pub row-within : e ≤ length flat → drop s (take e flat) ≡ rowAt flat ends r
-  unfolding rowAt
-  row-within h = rw (← starts, ← stops, le-leb e (length flat) h)
-
-  pub row-part : e ≤ length flat → take (e - s) (drop s flat) ≡ rowAt flat ends r
-  row-part h = part-is flat s e ∙ row-within h
 
 ----------------------------------------------------------------------
 -- Ranges

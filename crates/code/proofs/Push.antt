@@ -194,10 +194,11 @@ start-bound rows flat ends f short (suc r) h =
     omega (arith, start-next rows flat ends f r h, start-bound rows flat ends f short r (omega arith), all-at (λ row. length row ≤ 16) rows short r h)
 
 -- There is room for 1,024 rows of at most 16 qubits.
-pub flat-room : (rows : List Row) (flat ends : List ℕ) (row : Row) → Flat rows flat ends → All (λ row. length row ≤ 16) rows → length row ≤ 16
-    → length rows < 1024 → 16384 ≤ length flat → 1024 ≤ length ends → room? flat ends (length rows) row ≡ true
+pub flat-room : (rows : List Row) (flat ends : List ℕ) (r : ℕ) (row : Row) → Flat rows flat ends → r ≡ length rows
+    → All (λ row. length row ≤ 16) rows → length row ≤ 16 → length rows < 1024 → 16384 ≤ length flat → 1024 ≤ length ends
+    → room? flat ends r row ≡ true
 unfolding room?
-flat-room rows flat ends row f short small few long wide =
-    let start = start-bound rows flat ends f short (length rows) (omega arith) in
-    and-in (and-in (lt-ltb (length rows) (length ends) (omega arith)) (le-leb (startOf ends (length rows) + length row) (length flat) (omega arith)))
-    (lt-ltb (startOf ends (length rows) + length row) 65536 (omega arith))
+flat-room rows flat ends r row f e short small few long wide =
+    let bound = start-bound rows flat ends f short r (omega arith) in
+    and-in (and-in (lt-ltb r (length ends) (omega arith)) (le-leb (startOf ends r + length row) (length flat) (omega arith)))
+    (lt-ltb (startOf ends r + length row) 65536 (omega arith))

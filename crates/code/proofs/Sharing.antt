@@ -67,8 +67,8 @@ unfolding commute? evenWith?
 commute-more zs xs z =
     all-append (λ r. evenWith? xs r) zs (z ∷ []) ∙ ap (λ (t : Bool). commute? zs xs && t) (&&-true (evenWith? xs z) refl)
 
--- The same by what the code answers of the rows that the lists hold, the other kind first.
-pub commute-told : (xs zs : List Row) (flat ends : List ℕ) → Flat (xs ++ zs) flat ends → (z : Row) (told : Bool)
-    → told ≡ evenWith? (rowsBetween flat ends 0 (length xs)) z → commute? (zs ++ (z ∷ [])) xs ≡ (commute? zs xs && told)
-commute-told xs zs flat ends f z told e =
-    commute-more zs xs z ∙ ap (λ (t : Bool). commute? zs xs && t) (sym (e ∙ ap (λ (rows : List Row). evenWith? rows z) (flat-first xs zs flat ends f)))
+-- The same by what the code answers of the rows that the lists hold, those of the other kind first.
+pub commute-told : (xs zs : List Row) (flat ends : List ℕ) → Flat (xs ++ zs) flat ends → (to : ℕ) → to ≡ length xs
+    → (z : Row) (told : Bool) → told ≡ evenWith? (rowsBetween flat ends 0 to) z → commute? (zs ++ (z ∷ [])) xs ≡ (commute? zs xs && told)
+commute-told xs zs flat ends f to e z told t =
+    commute-more zs xs z ∙ ap (λ (b : Bool). commute? zs xs && b) (rw (← (flat-first xs zs flat ends f to e)) (sym t))

@@ -1,6 +1,6 @@
 // The code: its rows in lent lists, end to end, and the tests of rows.
 ghost use mathlib.Core.Path.{_≡_};
-ghost use Prim.Native.Nat.{ℕ, _+_, _<_, _≤_};
+ghost use Prim.Native.Nat.{_+_, _<_, _≤_};
 ghost use lib.ListN.{length, getD};
 ghost use Rattle.binary.specs.Bits.{_⊕_};
 ghost use Rattle.binary.specs.Meaning.{has, odd};
@@ -78,15 +78,15 @@ pub fn push_row(flat: &mut [u16], ends: &mut [u16], r: Row, qubits: &[u16]) -> b
         return false;
     }
     let start = start_of(ends, r);
-    let end = start + qubits.len();
-    if flat.len() < end {
+    let stop = start + qubits.len();
+    if flat.len() < stop {
         return false;
     }
-    if 65535 < end {
+    if 65535 < stop {
         return false;
     }
     write(flat, start, qubits);
-    ends[at] = end as u16;
+    ends[at] = stop as u16;
     true
 }
 

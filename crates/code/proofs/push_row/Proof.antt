@@ -13,8 +13,8 @@ returns c = push-endless _ _ _ _ (search needs)
 start-of-requires : tie.Need-start-of-requires
 start-of-requires c κs = search needs
 
-add-end : tie.Need-add-end
-add-end c = search needs
+add-stop : tie.Need-add-stop
+add-stop c = search needs
 
 same-length : tie.Need-same-length
 same-length c = search needs
@@ -56,7 +56,7 @@ push-row-spec =
     cast-at
     returns
     start-of-requires
-    add-end
+    add-stop
     same-length
     returns-2
     same-length-2
