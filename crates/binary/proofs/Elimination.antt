@@ -3,26 +3,26 @@
 -- The rows left are known by membership alone: neither their order nor the choice of the row that clears a column matters. Assumes nothing.
 use mathlib.Core.Path.{_≡_, refl, sym, ap, ap₂, _∙_}
 use mathlib.Core.Bool.{Bool, true, false, _&&_}
-use mathlib.Core.Logic.{_↔_, _⊎_, inl, inr, ⊎-elim}
+use mathlib.Core.Logic.{_⊎_, inl, inr, ⊎-elim}
 use mathlib.Core.List.{List, [], _∷_, List·Memᴰ, List·Memᴰ·head, List·Memᴰ·tail, List·Memᴰ·cases-cons, List·Memᴰ·not-nil}
 use Prim.Native.Nat.{ℕ, suc, _<_}
 use Rattle.binary.specs.Bits.{_⊕_}
-use Rattle.binary.specs.Meaning.{Qubits, Row, Below, has, product, IsProduct, Fixed, fixed?}
+use Rattle.binary.specs.Meaning.{Qubits, Row, Below, has, product, IsProduct, fixed?}
+use Rattle.binary.specs.Search.{Sums, empty, plus, Left}
 use Rattle.binary.proofs.Bits.{⊕-false, ⊕-shuffle, ⊕-self, ⊕-comm, ⊕-assoc, ⊕-cancel, &&-⊕, &&-true, bit, never}
-use Rattle.binary.proofs.Rows.{choice, empty-product, sum-product, product-below}
+use Rattle.binary.proofs.Rows.{choice, empty-product, sum-product}
 use Rattle.binary.proofs.Tests.{fixed-out, fixed-in}
 
 ----------------------------------------------------------------------
 -- Sums of members
 
--- The sums of finitely many sets of M.
-pub data Sums (M : Qubits → Type 0) : Qubits → Type 0 where
-  empty : {s : Qubits} → ((q : ℕ) → s q ≡ false) → Sums M s
-  plus : {s : Qubits} (a b : Qubits) → M a → Sums M b → ((q : ℕ) → s q ≡ a q ⊕ b q) → Sums M s
-
 pub sums-same : (M : Qubits → Type 0) (s t : Qubits) → ((q : ℕ) → s q ≡ t q) → Sums M t → Sums M s
 sums-same M s t h (empty e) = empty (λ q. h q ∙ e q)
 sums-same M s t h (plus a b m u e) = plus a b m u (λ q. h q ∙ e q)
+
+pub sums-map : (M M′ : Qubits → Type 0) → ((a : Qubits) → M a → M′ a) → (s : Qubits) → Sums M s → Sums M′ s
+sums-map M M′ f s (empty e) = empty e
+sums-map M M′ f s (plus a b m t e) = plus a b (f a m) (sums-map M M′ f b t) e
 
 pub sums-one : (M : Qubits → Type 0) (a : Qubits) → M a → Sums M a
 sums-one M a m = plus a (λ q. false) m (empty (λ q. refl)) (λ q. sym (⊕-false (a q)))
@@ -53,14 +53,11 @@ sums-product rows s (plus a b m t e) =
     let y = sum-product rows x (sums-product rows b t) in
     (y .0, λ q. e q ∙ ap (_⊕ b q) (m .2 q) ∙ y .1 q)
 
-more-rows : (k : Row) (rows : List Row) (s : Qubits) → Sums (RowOf rows) s → Sums (RowOf (k ∷ rows)) s
-more-rows k rows s (empty e) = empty e
-more-rows k rows s (plus a b m t e) = plus a b (m .0, List·Memᴰ·tail (m .1), m .2) (more-rows k rows b t) e
-
 product-sums : (rows : List Row) (c : ℕ → Bool) → Sums (RowOf rows) (product rows c)
 product-sums [] c = empty (λ q. refl)
 product-sums (k ∷ rows) c =
-    let rest = more-rows k rows (product rows (λ i. c (suc i))) (product-sums rows (λ i. c (suc i))) in
+    let rest =
+    sums-map (RowOf rows) (RowOf (k ∷ rows)) (λ a m. (m .0, List·Memᴰ·tail (m .1), m .2)) (product rows (λ i. c (suc i))) (product-sums rows (λ i. c (suc i))) in
     bit (c 0) (λ t. plus (has k) (product rows (λ i. c (suc i))) (k, List·Memᴰ·head refl, λ q. refl) rest (λ q. rw t))
     (λ t. sums-same (RowOf (k ∷ rows)) (product (k ∷ rows) c) (product rows (λ i. c (suc i))) (λ q. rw t) rest)
 
@@ -110,12 +107,6 @@ module _ (q : ℕ) (u : Qubits) (old new : Qubits → Type 0) (cleared : Cleared
 ----------------------------------------------------------------------
 -- The rows left
 
--- The sums of the rows left are the products of all rows that are 0 on the columns taken.
-pub record Left (rows : List Row) (taken : ℕ → Type 0) (M : Qubits → Type 0) : Type 0 where
-  pub products : (s : Qubits) → Sums M s → IsProduct rows s
-  pub zeros : (s : Qubits) → Sums M s → (q : ℕ) → taken q → s q ≡ false
-  pub whole : (s : Qubits) → IsProduct rows s → ((q : ℕ) → taken q → s q ≡ false) → Sums M s
-
 pub left-start : (rows : List Row) → Left rows (λ q. ⊥) (RowOf rows)
 left-start rows =
     record {
@@ -156,6 +147,15 @@ left-iff rows taken taken′ M to from v =
       products = v .products;
       zeros = λ s t. from s (v .products s t) (v .zeros s t);
       whole = λ s p h. v .whole s p (λ q i. h q (to q i));
+    }
+
+pub left-same : (rows : List Row) (taken : ℕ → Type 0) (M M′ : Qubits → Type 0) → ((a : Qubits) → M a → M′ a) → ((a : Qubits) → M′ a → M a)
+    → Left rows taken M → Left rows taken M′
+left-same rows taken M M′ to from v =
+    record {
+      products = λ s t. v .products s (sums-map M′ M from s t);
+      zeros = λ s t. v .zeros s (sums-map M′ M from s t);
+      whole = λ s p h. sums-map M M′ to s (v .whole s p h);
     }
 
 ----------------------------------------------------------------------

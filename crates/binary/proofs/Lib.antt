@@ -3,3 +3,8 @@ pub mod Rows
 pub mod Tests
 pub mod Classes
 pub mod Elimination
+pub mod Words
+pub mod Put
+pub mod Columns
+pub mod Search
+pub mod Passes

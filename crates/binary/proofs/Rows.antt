@@ -71,7 +71,7 @@ odd-product (k ∷ rs) r h c =
 pub inside-sum : {a b l : Qubits} → Inside a l → Inside b l → Inside (sum a b) l
 inside-sum {a} {b} f g q t = ⊕-out (a q) (b q) t (f q) (g q)
 
-has-below : (n : ℕ) (r : Row) → All (λ q. q < n) r → (q : ℕ) → has r q ≡ true → q < n
+pub has-below : (n : ℕ) (r : Row) → All (λ q. q < n) r → (q : ℕ) → has r q ≡ true → q < n
 has-below n [] h q t = never t refl
 has-below n (p ∷ r) h q t = or-out (eqb p q) _ t (λ e. rw (← (eqb-eq p q e)) (h .0)) (λ l. has-below n r (h .1) q l)
 

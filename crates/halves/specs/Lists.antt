@@ -8,7 +8,7 @@
 --   Topped      no form has a bit above the live guesses
 --   TookUp      what taking up rows leaves in the list of forms
 use mathlib.Core.Path.{_≡_}
-use mathlib.Core.Bool.{Bool, true, false, cond}
+use mathlib.Core.Bool.{Bool, true, false, _&&_, cond}
 use mathlib.Core.Option.{Option, none, some}
 use mathlib.Core.List.{List, [], _∷_}
 use Prim.Native.Nat.{ℕ, zero, suc, _+_, _≤_, _<_}
@@ -57,7 +57,7 @@ halfOf n flat ends lost lit first count other others = record {
   rows = rowsFrom flat ends first count;
   others = rowsFrom flat ends other others;
   lost = listed n lost;
-  lit = λ i. eqb (getD lit (first + i) 0) 1;
+  lit = λ i. ltb i count && eqb (getD lit (first + i) 0) 1;
 }
 
 ----------------------------------------------------------------------

@@ -1,6 +1,7 @@
 // A half of a shot: its words and its report.
 ghost use mathlib.Core.Path.{_≡_};
 ghost use Rattle.halves.specs.Words.{finished?};
+ghost use Rattle.halves.specs.Decode.{Given, HalfLists, Decodes};
 use code::Qubit;
 use code::Row;
 
@@ -20,6 +21,12 @@ pub struct HalfReport {
     pub turns: u16,
     pub guesses: u16,
     pub live: u16,
+}
+
+// The answer to the decode of a half.
+pub enum HalfAnswer {
+    Refused,
+    Decoded(HalfReport),
 }
 
 // What a scan of a row's open qubits finds.

@@ -1,0 +1,190 @@
+-- Words and their bits: the bits of the machine's operations, runs of words written one by one, and what that does to the cells of rows.
+-- Assumes nothing.
+use mathlib.Core.Path.{_≡_, refl, sym, ap, ap₂, _∙_}
+use mathlib.Core.Bool.{Bool, true, false, _||_}
+use mathlib.Core.Logic.{_⊎_, inl, inr, ⊎-elim}
+use mathlib.Core.List.{List}
+use Prim.Native.Nat.{ℕ, suc, _+_, _-_, _*_, _/_, _%_, _^_, _≤_, _<_}
+use native.Mathlib.Nat.{eq-zero-or-pos, le-refl, div-eq-of-lt, div-self, zero-div, mod-self, one-mul, suc-mul, mul-le-mul, mul-le-mul-right}
+use native.Mathlib.Decide.{decLt, ℕ-discrete}
+use native.Mathlib.Omega.{arith}
+use borrow.Author.Tests.{eq-eqb, ne-eqb, eqb-true}
+use lib.Dec.{eqb, lit<}
+use lib.Pow.{pow-pos, pow-lt, field, mod-mod-pow, shl-exact}
+use lib.Bits.{bitOr, bitXor, or-shr, or-mod, xor-shr, xor-mod}
+use lib.ListN.{length, getD, set}
+use lib.Seq.{getD-set-same, getD-set-other}
+use Rattle.binary.specs.Bits.{_⊕_}
+use Rattle.binary.specs.Packed.{bit, cell}
+use Rattle.binary.specs.Search.{Run, BitsSet}
+use Rattle.binary.proofs.Bits.{iff-eq}
+
+pub order : (a b : ℕ) → (a < b) ⊎ (b ≤ a)
+order a b = go (decLt a b)
+  where
+    go : Dec (a < b) → (a < b) ⊎ (b ≤ a)
+    go (yes p) = inl p
+    go (no f) = inr (omega arith)
+
+----------------------------------------------------------------------
+-- Bits of the machine's operations
+
+parity : (n : ℕ) → (n % 2 ≡ 0) ⊎ (n % 2 ≡ 1)
+parity n = ⊎-elim (λ e. inl e) (λ (p : 0 < n % 2). inr (omega arith)) (eq-zero-or-pos (n % 2))
+
+-- An operation f of words goes bit by bit, as g, if it commutes with a shift and a remainder, and is g on the digits 0 and 1.
+module _ (f : ℕ → ℕ → ℕ) (g : Bool → Bool → Bool) (shift : (a b k : ℕ) → f a b / 2 ^ k ≡ f (a / 2 ^ k) (b / 2 ^ k))
+    (rest : (a b k : ℕ) → f a b % 2 ^ k ≡ f (a % 2 ^ k) (b % 2 ^ k))
+    (n00 : eqb (f 0 0) 1 ≡ g false false) (n01 : eqb (f 0 1) 1 ≡ g false true) (n10 : eqb (f 1 0) 1 ≡ g true false) (n11 : eqb (f 1 1) 1 ≡ g true true) where
+  digit : (p q : ℕ) → eqb (f p q % 2) 1 ≡ g (eqb (p % 2) 1) (eqb (q % 2) 1)
+  digit p q = rw (rest p q 1) (go (parity p) (parity q))
+    where
+      go : (p % 2 ≡ 0) ⊎ (p % 2 ≡ 1) → (q % 2 ≡ 0) ⊎ (q % 2 ≡ 1) → eqb (f (p % 2) (q % 2)) 1 ≡ g (eqb (p % 2) 1) (eqb (q % 2) 1)
+      go (inl d) (inl e) = rw (d, e) n00
+      go (inl d) (inr e) = rw (d, e) n01
+      go (inr d) (inl e) = rw (d, e) n10
+      go (inr d) (inr e) = rw (d, e) n11
+
+  bitwise : (a b k : ℕ) → bit (f a b) k ≡ g (bit a k) (bit b k)
+  unfolding bit
+  bitwise a b k = ap (λ (x : ℕ). eqb (x % 2) 1) (shift a b k) ∙ digit (a / 2 ^ k) (b / 2 ^ k)
+
+pub bit-xor : (a b k : ℕ) → bit (bitXor a b) k ≡ bit a k ⊕ bit b k
+bit-xor = bitwise bitXor _⊕_ xor-shr xor-mod refl refl refl refl
+
+pub bit-or : (a b k : ℕ) → bit (bitOr a b) k ≡ (bit a k || bit b k)
+bit-or = bitwise bitOr _||_ or-shr or-mod refl refl refl refl
+
+pub bit-zero : (k : ℕ) → bit 0 k ≡ false
+unfolding bit
+bit-zero k = ap (λ (x : ℕ). eqb (x % 2) 1) (zero-div (2 ^ k))
+
+-- A bit below the j lowest.
+bit-mod : (n j k : ℕ) → k < j → bit (n % 2 ^ j) k ≡ bit n k
+unfolding bit
+bit-mod n j k h =
+    let e : j - k + k ≡ j = omega arith in
+    let d : j - k - 1 + 1 ≡ j - k = omega arith in
+    ap (λ (x : ℕ). eqb (x % 2) 1) (ap (λ (x : ℕ). n % 2 ^ x / 2 ^ k) (sym e) ∙ field n (j - k) k)
+    ∙ ap (λ (x : ℕ). eqb x 1) (ap (λ (x : ℕ). n / 2 ^ k % 2 ^ x % 2) (sym d) ∙ mod-mod-pow (n / 2 ^ k) (j - k - 1) 1)
+
+-- The word with bit g alone.
+bit-pow : (g k : ℕ) → bit (2 ^ g) k ≡ eqb g k
+unfolding bit
+bit-pow g k = go (ℕ-discrete g k)
+  where
+    above : g < k → bit (2 ^ g) k ≡ false
+    above h = ap (λ (x : ℕ). eqb (x % 2) 1) (div-eq-of-lt (pow-lt h))
+
+    under : k < g → bit (2 ^ g) k ≡ false
+    under h = sym (bit-mod (2 ^ g) g k h) ∙ ap (λ (x : ℕ). bit x k) (mod-self (2 ^ g)) ∙ bit-zero k
+
+    go : Dec (g ≡ k) → bit (2 ^ g) k ≡ eqb g k
+    go (yes e) = ap (λ (x : ℕ). bit (2 ^ g) x) (sym e) ∙ ap (λ (x : ℕ). eqb (x % 2) 1) (div-self (pow-pos g)) ∙ sym (eq-eqb g k e)
+    go (no f) = ⊎-elim under (λ (l : g ≤ k). above (omega arith)) (order k g) ∙ sym (ne-eqb g k f)
+
+-- The code's `x | (1 << g)`.
+bit-set : (x g k : ℕ) → g < 64 → bit (bitOr x (1 * 2 ^ g % 2 ^ 64)) k ≡ (bit x k || eqb g k)
+bit-set x g k h =
+    let one : 1 * 2 ^ g % 2 ^ 64 ≡ 2 ^ g = shl-exact 1 g 64 (lit< tt) (omega arith) ∙ one-mul (2 ^ g) in
+    rw one (bit-or x (2 ^ g) k ∙ ap (λ (b : Bool). bit x k || b) (bit-pow g k))
+
+----------------------------------------------------------------------
+-- Runs of words
+
+pub run-none : (f : ℕ → ℕ → ℕ) (a b : ℕ) (m : List ℕ) → Run f a b 0 m m
+run-none f a b m = record { done = λ j h. absurd (omega arith); kept = λ k h. refl }
+
+-- One more word. The word that it is made by has not changed yet.
+pub run-more : (f : ℕ → ℕ → ℕ) (a b i : ℕ) (m₀ m : List ℕ) → Run f a b i m₀ m → b + i < length m → (a + i < b) ⊎ (b + i ≤ a + i)
+    → Run f a b (i + 1) m₀ (set m (b + i) (f (getD m (b + i) 0) (getD m (a + i) 0)))
+run-more f a b i m₀ m s l out =
+    record {
+      done = λ j h. ⊎-elim
+          (λ (g : j < i). getD-set-other m (b + i) (b + j) v 0 (λ e. omega arith) ∙ s .done j g)
+          (λ (g : i ≤ j). let e : j ≡ i = omega arith in
+          rw e (getD-set-same m (b + i) v 0 l ∙ ap₂ f (s .kept (b + i) (inr (le-refl (b + i)))) (s .kept (a + i) out)))
+          (order j i);
+      kept = λ k h. getD-set-other m (b + i) k v 0 (λ e. ⊎-elim (λ (p : k < b). omega arith) (λ (p : b + (i + 1) ≤ k). omega arith) h)
+          ∙ s .kept k (⊎-elim (λ p. inl p) (λ (p : b + (i + 1) ≤ k). inr (omega arith)) h);
+    }
+  where
+    v : ℕ
+    v = f (getD m (b + i) 0) (getD m (a + i) 0)
+
+----------------------------------------------------------------------
+-- Rows of w words
+
+pub few-words : (i w : ℕ) → i ≤ 512 → w ≤ 16 → i * w ≤ 8192
+few-words i w a b = mul-le-mul {n₁ = i} {m₁ = w} {n₂ = 512} {m₂ = 16} a b
+
+pub apart : (w i j : ℕ) → i < j → i * w + w ≤ j * w
+apart w i j h = omega (arith, suc-mul i w, mul-le-mul-right {m = suc i} {n = j} w h)
+
+-- Of two rows, a word of one is below the other, or above its word.
+pub ahead : (w from to k : ℕ) → k < w → (from * w + k < to * w) ⊎ (to * w + k ≤ from * w + k)
+ahead w from to k h =
+    ⊎-elim (λ (p : from < to). inl (omega (arith, apart w from to p)))
+    (λ (p : to ≤ from). inr (omega (arith, mul-le-mul-right {m = to} {n = from} w p))) (order from to)
+
+-- Words that changed in row i alone.
+pub other-cells : (w i : ℕ) (m m′ : List ℕ) → ((k : ℕ) → (k < i * w) ⊎ (i * w + w ≤ k) → getD m′ k 0 ≡ getD m k 0)
+    → (j c : ℕ) → (j ≡ i → ⊥) → c < 64 * w → cell m′ w j c ≡ cell m w j c
+unfolding cell
+other-cells w i m m′ kept j c n h = ap (λ (x : ℕ). bit x (c % 64)) (kept (j * w + c / 64) (side (order j i)))
+  where
+    side : (j < i) ⊎ (i ≤ j) → (j * w + c / 64 < i * w) ⊎ (i * w + w ≤ j * w + c / 64)
+    side (inl p) = inl (omega (arith, apart w j i p))
+    side (inr p) = inr (omega (arith, apart w i j (omega arith)))
+
+-- A row whose words became f of themselves and the words of another row.
+pub run-cells : (f : ℕ → ℕ → ℕ) (g : Bool → Bool → Bool) → ((a b k : ℕ) → bit (f a b) k ≡ g (bit a k) (bit b k))
+    → (w from to : ℕ) (m m′ : List ℕ) → Run f (from * w) (to * w) w m m′ → (c : ℕ) → c < 64 * w → cell m′ w to c ≡ g (cell m w to c) (cell m w from c)
+unfolding cell
+run-cells f g law w from to m m′ s c h =
+    ap (λ (x : ℕ). bit x (c % 64)) (s .done (c / 64) (omega arith))
+    ∙ law (getD m (to * w + c / 64) 0) (getD m (from * w + c / 64) 0) (c % 64)
+
+-- A bit set in a row.
+same-digit : (q c : ℕ) → c / 64 ≡ q / 64 → eqb (q % 64) (c % 64) ≡ eqb q c
+same-digit q c e =
+    iff-eq (eqb (q % 64) (c % 64)) (eqb q c)
+    (λ t. let d : q % 64 ≡ c % 64 = eqb-true (q % 64) (c % 64) t in eq-eqb q c (omega arith))
+    (λ t. let d : q ≡ c = eqb-true q c t in eq-eqb (q % 64) (c % 64) (omega arith))
+
+or-none : (b : Bool) → b ≡ (b || false)
+or-none true = refl
+or-none false = refl
+
+pub bit-set-row : (w i q : ℕ) (m : List ℕ) → q / 64 < w → i * w + w ≤ length m
+    → BitsSet w i (eqb q) m (set m (i * w + q / 64) (bitOr (getD m (i * w + q / 64) 0) (1 * 2 ^ (q % 64) % 2 ^ 64)))
+unfolding cell
+bit-set-row w i q m h l =
+    record {
+      cells = λ c b. go c b (ℕ-discrete (c / 64) (q / 64));
+      kept = λ k s. getD-set-other m at k v 0 (λ e. ⊎-elim (λ (p : k < i * w). omega arith) (λ (p : i * w + w ≤ k). omega arith) s);
+    }
+  where
+    at : ℕ
+    at = i * w + q / 64
+
+    v : ℕ
+    v = bitOr (getD m (i * w + q / 64) 0) (1 * 2 ^ (q % 64) % 2 ^ 64)
+
+    go : (c : ℕ) → c < 64 * w → Dec (c / 64 ≡ q / 64) → cell (set m at v) w i c ≡ (cell m w i c || eqb q c)
+    go c b (yes e) =
+        ap (λ (x : ℕ). bit (getD (set m at v) (i * w + x) 0) (c % 64)) e
+        ∙ ap (λ (x : ℕ). bit x (c % 64)) (getD-set-same m at v 0 (omega arith))
+        ∙ bit-set (getD m at 0) (q % 64) (c % 64) (omega arith)
+        ∙ ap₂ _||_ (ap (λ (x : ℕ). bit (getD m (i * w + x) 0) (c % 64)) (sym e)) (same-digit q c e)
+    go c b (no f) =
+        ap (λ (x : ℕ). bit x (c % 64)) (getD-set-other m at (i * w + c / 64) v 0 (λ e. f (omega arith)))
+        ∙ or-none (cell m w i c) ∙ ap (λ (x : Bool). cell m w i c || x) (sym (ne-eqb q c (λ e. f (ap (λ (x : ℕ). x / 64) (sym e)))))
+
+-- A bit that the row does not reach.
+pub bit-past-row : (w i q : ℕ) (m : List ℕ) → w ≤ q / 64 → BitsSet w i (eqb q) m m
+bit-past-row w i q m h =
+    record {
+      cells = λ c b. or-none (cell m w i c) ∙ ap (λ (x : Bool). cell m w i c || x) (sym (ne-eqb q c (λ e. omega arith)));
+      kept = λ k s. refl;
+    }

@@ -1,0 +1,113 @@
+-- What the private functions do: to words, to rows, to the rows left of an elimination.
+--   second, none   what a word becomes: the other word; 0
+--   Run            each of n words becomes f of itself and its word of another run
+--   BitsSet        the bits of a set are set in row i
+--   First          the first row from top on with column q
+--   Later          row i is added to each later row that has column q
+--   former         the place that a row had before row i left
+--   Column         column q is cleared: the first row with it leaves, and is added to each other row that has it
+--   Clears         the answer says whether a row cleared the column
+--   Sums           the sums of finitely many sets
+--   Left           the sums of the rows left are the products of all rows that are 0 on the columns taken
+--   LeftAt         the rows left stand at the places from top on
+--   Taken          the columns taken in a pass, up to q: first the columns not lost, then the lost ones
+--   Search         a pass that has come to column q
+--   Goes           a pass goes from column q to column q′
+use mathlib.Core.Path.{_≡_}
+use mathlib.Core.Bool.{Bool, true, false, cond, _&&_, _||_}
+use mathlib.Core.Logic.{_⊎_}
+use mathlib.Core.List.{List}
+use Prim.Native.Nat.{ℕ, _+_, _*_, _≤_, _<_}
+use lib.Dec.{eqb, ltb}
+use lib.ListN.{getD}
+use Rattle.binary.specs.Bits.{_⊕_}
+use Rattle.binary.specs.Meaning.{Qubits, Row, IsProduct, Below, fixed?}
+use Rattle.binary.specs.Packed.{cell, listed}
+
+----------------------------------------------------------------------
+-- Words
+
+abbrev pub second : ℕ → ℕ → ℕ
+second x y = y
+
+abbrev pub none : ℕ → ℕ → ℕ
+none x y = 0
+
+-- The words from b on, by those from a on. The others stay.
+pub record Run (f : ℕ → ℕ → ℕ) (a b n : ℕ) (m m′ : List ℕ) : Type 0 where
+  pub done : (j : ℕ) → j < n → getD m′ (b + j) 0 ≡ f (getD m (b + j) 0) (getD m (a + j) 0)
+  pub kept : (k : ℕ) → (k < b) ⊎ (b + n ≤ k) → getD m′ k 0 ≡ getD m k 0
+
+-- Columns past the row's words are passed over.
+pub record BitsSet (w i : ℕ) (s : Qubits) (m m′ : List ℕ) : Type 0 where
+  pub cells : (c : ℕ) → c < 64 * w → cell m′ w i c ≡ (cell m w i c || s c)
+  pub kept : (k : ℕ) → (k < i * w) ⊎ (i * w + w ≤ k) → getD m′ k 0 ≡ getD m k 0
+
+----------------------------------------------------------------------
+-- Rows
+
+-- r is its place, or `rows` where there is none.
+pub record First (w top rows q : ℕ) (m : List ℕ) (r : ℕ) : Type 0 where
+  pub start : top ≤ r
+  pub within : r ≤ rows
+  pub before : (i : ℕ) → top ≤ i → i < r → cell m w i q ≡ false
+  pub found : r < rows → cell m w r q ≡ true
+
+-- The rows from n on stay too.
+pub record Later (w i n q : ℕ) (m m′ : List ℕ) : Type 0 where
+  pub added : (j c : ℕ) → i < j → j < n → c < 64 * w → cell m′ w j c ≡ cell m w j c ⊕ (cell m w j q && cell m w i c)
+  pub kept : (j c : ℕ) → (j ≤ i) ⊎ (n ≤ j) → c < 64 * w → cell m′ w j c ≡ cell m w j c
+
+-- Row top moves to place i.
+abbrev pub former : ℕ → ℕ → ℕ → ℕ
+former top i j = cond (eqb j i) top j
+
+pub record Column (w top rows q : ℕ) (m m′ : List ℕ) (i : ℕ) : Type 0 where
+  pub start : top ≤ i
+  pub within : i < rows
+  pub found : cell m w i q ≡ true
+  pub cells : (j c : ℕ) → top < j → j < rows → c < 64 * w
+      → cell m′ w j c ≡ cell m w (former top i j) c ⊕ (cell m w (former top i j) q && cell m w i c)
+
+-- r says whether some row cleared the column.
+pub record Clears (w top rows q : ℕ) (m m′ : List ℕ) (r : Bool) : Type 0 where
+  pub cleared : r ≡ true → (i : ℕ) × Column w top rows q m m′ i
+  pub same : r ≡ false → m′ ≡ m
+  pub blank : r ≡ false → (i : ℕ) → top ≤ i → i < rows → cell m w i q ≡ false
+
+----------------------------------------------------------------------
+-- The rows left
+
+pub data Sums (M : Qubits → Type 0) : Qubits → Type 0 where
+  empty : {s : Qubits} → ((q : ℕ) → s q ≡ false) → Sums M s
+  plus : {s : Qubits} (a b : Qubits) → M a → Sums M b → ((q : ℕ) → s q ≡ a q ⊕ b q) → Sums M s
+
+pub record Left (rows : List Row) (taken : ℕ → Type 0) (M : Qubits → Type 0) : Type 0 where
+  pub products : (s : Qubits) → Sums M s → IsProduct rows s
+  pub zeros : (s : Qubits) → Sums M s → (q : ℕ) → taken q → s q ≡ false
+  pub whole : (s : Qubits) → IsProduct rows s → ((q : ℕ) → taken q → s q ≡ false) → Sums M s
+
+-- Of n columns.
+abbrev pub LeftAt : ℕ → ℕ → ℕ → ℕ → List ℕ → Qubits → Type 0
+LeftAt n w top rows m a = (i : ℕ) × (top ≤ i) × (i < rows) × ((q : ℕ) → a q ≡ (ltb q n && cell m w i q))
+
+-- The columns taken before a pass.
+abbrev pub Base : Qubits → Bool → ℕ → Type 0
+Base lost false p = ⊥
+Base lost true p = lost p ≡ false
+
+abbrev pub Taken : Qubits → Bool → ℕ → ℕ → Type 0
+Taken lost pass q p = Base lost pass p ⊎ ((lost p ≡ pass) × (p < q))
+
+-- The pass over the lost columns marks the fixed qubits; marks are as they were from q on.
+pub record Search (n w rows : ℕ) (rs : List Row) (lost : Qubits) (pass : Bool) (marks₀ : List ℕ) (q top : ℕ) (m marks : List ℕ) : Type 0 where
+  pub left : Left rs (Taken lost pass q) (LeftAt n w top rows m)
+  pub marked : (p : ℕ) → p < q → getD marks p 0 ≡ cond (pass && fixed? n rs lost p) 1 (getD marks₀ p 0)
+  pub kept : (p : ℕ) → q ≤ p → getD marks p 0 ≡ getD marks₀ p 0
+
+-- r is the new top.
+pub record Goes (n w rows : ℕ) (lost : List ℕ) (pass : Bool) (q q′ top : ℕ) (m marks : List ℕ) (r : ℕ) (m′ marks′ : List ℕ) : Type 0 where
+  pub within : r ≤ rows
+  pub on : (rs : List Row) (marks₀ : List ℕ) → Below n rs
+      → Search n w rows rs (listed n lost) pass marks₀ q top m marks → Search n w rows rs (listed n lost) pass marks₀ q′ r m′ marks′
+  pub rest : (k : ℕ) → n ≤ k → getD marks′ k 0 ≡ getD marks k 0
