@@ -1,0 +1,94 @@
+//! The bench shots of document 01 and its printed example.
+
+use crate::codes::{set, Code};
+use crate::half::Asked;
+use crate::known::{four, seven};
+use crate::records;
+use crate::shot::{Decode, Shot};
+use crate::stream::Record;
+use std::rc::Rc;
+
+/// Records and some of the lines they print, by their places.
+pub struct Bench {
+    pub name: String,
+    pub records: Vec<Record>,
+    pub lines: Vec<(usize, String)>,
+}
+
+pub fn all() -> Vec<Bench> {
+    proved().into_iter().chain(run_only()).chain([example()]).collect()
+}
+
+fn shot(name: &str, code: Code, sets: [&[usize]; 2], asked: [usize; 2], line: &str) -> Bench {
+    let mut shot = Shot::empty(&code);
+    shot.sets[0] = set(code.n, sets[0]);
+    shot.sets[1] = set(code.z.len(), sets[1]);
+    let asked = Asked { budget: asked[0], limit: asked[1] };
+    let records = records::whole(&Decode { code: Rc::new(code), shot, asked });
+    Bench { name: name.into(), records, lines: vec![(1, format!("X {line}"))] }
+}
+
+/// P1 to P12: the code, lost qubits and lit Z rows, budget and limit, X half.
+fn proved() -> [Bench; 12] {
+    let all: &[usize] = &[0, 1, 2, 3];
+    let even: &[usize] = &[0, 2, 4, 6];
+    let twice = Code { n: 2, x: vec![], z: vec![vec![0, 1], vec![0, 1]] };
+    [
+        shot("P1", four(), [&[], &[]], [0, 100], "certain 0 0 0 0 flip"),
+        shot("P2", four(), [&[], &[0]], [0, 100], "none 0 0 0 0"),
+        shot("P3", four(), [&[2], &[0]], [0, 100], "certain 0 1 0 0 flip 2"),
+        shot("P4", four(), [&[0, 1], &[0]], [1, 100], "unsure 0 2 1 1 flip 1"),
+        shot("P5", four(), [&[0, 1], &[0]], [0, 100], "spent 0 0 0 0"),
+        shot("P6", four(), [&[0, 1], &[0]], [1, 1], "stopped 0 1 1 1"),
+        shot("P7", four(), [all, &[0]], [2, 100], "unsure 1 3 2 2 flip 3"),
+        shot("P8", four(), [all, &[0]], [1, 100], "spent 1 1 1 1"),
+        shot("P9", seven(), [&[0, 1, 2], &[0]], [1, 100], "unsure 0 3 1 1 flip 0"),
+        shot("P10", seven(), [even, &[0, 1, 2]], [1, 100], "certain 1 3 1 0 flip 6"),
+        shot("P11", seven(), [even, &[0]], [1, 100], "certain 1 3 1 0 flip 2 4 6"),
+        shot("P12", twice, [&[0], &[0]], [0, 100], "none 0 1 0 0"),
+    ]
+}
+
+fn run_only() -> [Bench; 4] {
+    let qubits: Vec<usize> = (0..64).collect();
+    let free = || Code::new(64);
+    let refused = |name: &str, records: Vec<Record>, at: usize, line: &str| Bench {
+        name: name.into(),
+        records,
+        lines: vec![(at, line.into())],
+    };
+    let over = vec![records::sizes(64, 0, 0), records::decode(Asked { budget: 64, limit: 100 })];
+    let large = vec![records::sizes(1025, 0, 0)];
+    [
+        shot("63 free", free(), [&qubits[..63], &[]], [63, 100], "unsure 0 63 63 63 flip"),
+        shot("64 free", free(), [&qubits, &[]], [63, 100], "spent 0 63 63 63"),
+        refused("budget 64", over, 1, "refused 10 5"),
+        refused("n 1,025", large, 0, "refused 3 1"),
+    ]
+}
+
+fn example() -> Bench {
+    let records = [
+        &[0x01, 0x04, 0x00, 0x01, 0x00, 0x01, 0x00][..],
+        &[0x24, 0x00, 0x00, 0x01, 0x00, 0x02, 0x00, 0x03, 0x00],
+        &[0x44, 0x00, 0x00, 0x01, 0x00, 0x02, 0x00, 0x03, 0x00],
+        &[0x02, 0x00, 0x00],
+        &[0x02, 0x01, 0x00],
+        &[0x03, 0x00, 0x00],
+        &[0x05, 0x01, 0x64, 0x00],
+        &[0x02, 0x04, 0x00],
+        &[0x05, 0x01, 0x64, 0x00],
+    ];
+    let lines = [
+        "code 4 1 1",
+        "X unsure 0 2 1 1 flip 1",
+        "Z unsure 0 2 1 1 flip",
+        "refused 8 2",
+        "refused 11 5",
+    ];
+    Bench {
+        name: "example".into(),
+        records: records.map(<[u8]>::to_vec).into(),
+        lines: lines.map(String::from).into_iter().enumerate().collect(),
+    }
+}

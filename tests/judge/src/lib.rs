@@ -1,0 +1,25 @@
+//! Tests from outside: document 01 written a second time, plainly, and a judge
+//! that needs no turns.
+
+pub mod bench;
+pub mod bits;
+pub mod codes;
+pub mod facts;
+pub mod families;
+pub mod generate;
+pub mod half;
+pub mod judge;
+pub mod known;
+pub mod linear;
+pub mod lists;
+pub mod literal;
+pub mod losses;
+pub mod machine;
+pub mod program;
+pub mod random;
+pub mod records;
+pub mod shot;
+pub mod shots;
+pub mod strays;
+pub mod stream;
+pub mod wrong;

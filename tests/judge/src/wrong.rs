@@ -1,0 +1,158 @@
+//! Deliberately wrong rules, to see that the tests catch them.
+
+use crate::codes::Code;
+use crate::half::{Half, Row};
+use crate::judge;
+
+macro_rules! wrongs {
+    ($($variant:ident $name:literal)*) => {
+        #[derive(Clone, Copy, PartialEq, Eq, Debug)]
+        pub enum Wrong {
+            Nothing,
+            $($variant),*
+        }
+
+        impl Wrong {
+            pub const ALL: &'static [(&'static str, Wrong)] = &[$(($name, Wrong::$variant)),*];
+        }
+    };
+}
+
+wrongs! {
+    // A half's start.
+    FixEachRow "fix-each-row"
+    FixSingleRows "fix-single-rows"
+    FixNothing "fix-nothing"
+    UntouchedIgnored "untouched-ignored"
+    // Its turns.
+    PeelHighest "peel-highest"
+    GuessHighest "guess-highest"
+    GuessLowest "guess-lowest"
+    GuessByBoth "guess-by-both"
+    OldestReplaced "oldest-replaced"
+    BitKept "bit-kept"
+    HalfForms "forms-of-32-bits"
+    TopLost "forms-of-63-bits"
+    // Its end.
+    BudgetFirst "budget-first"
+    BudgetOverall "budget-overall"
+    LimitFirst "limit-first"
+    SpentFirst "spent-first"
+    CertainIfFits "certain-if-fits"
+    FailingUncounted "failing-turn-uncounted"
+    LiveAfterNone "live-after-none"
+    // What a refusal leaves.
+    ThreeKeeps "code-kept-after-3"
+    FourKeeps "code-kept-after-4"
+    FiveKeeps "code-kept-after-5"
+    SixKeeps "code-kept-after-6"
+    SevenDrops "loading-dropped-after-7"
+    EightForgives "unspoiled-after-8"
+    NineForgives "unspoiled-after-9"
+    TenSpoils "spoiled-after-10"
+    TenKeeps "shot-kept-after-10"
+    ElevenSpoils "spoiled-after-11"
+    // Which refusal is given.
+    FiveFirst "5-before-4"
+    TenFirst "10-before-7"
+    ElevenFirst "11-before-10"
+    SixUnseen "never-6"
+    NineUnseen "never-9"
+    ClashOfLast "6-looks-at-last-row"
+    // The rest of the stream.
+    ShotKept "shot-kept-after-decode"
+    SpoiledDeaf "spoiled-takes-nothing"
+    LitCrossed "lit-kinds-crossed"
+    HalvesCrossed "halves-crossed"
+    CutOffSilent "cut-off-silent"
+    UnknownGoesOn "unknown-goes-on"
+}
+
+impl Wrong {
+    pub fn named(name: &str) -> Option<Wrong> {
+        let mut all = Wrong::ALL.iter();
+        all.find(|(known, _)| *known == name).map(|(_, wrong)| *wrong)
+    }
+
+    /// The order in which refusals are tried.
+    pub fn order(self) -> Vec<u8> {
+        let mut order: Vec<u8> = (1..=12).collect();
+        let mut first = |early: usize, late: usize| order[early - 1..late].rotate_right(1);
+        match self {
+            Wrong::FiveFirst => first(4, 5),
+            Wrong::TenFirst => first(7, 10),
+            Wrong::ElevenFirst => first(10, 11),
+            Wrong::SixUnseen => order.retain(|&number| number != 6),
+            Wrong::NineUnseen => order.retain(|&number| number != 9),
+            _ => {}
+        }
+        order
+    }
+
+    /// The refusal whose last column is followed.
+    pub fn leaves(self, number: u8) -> u8 {
+        const NOTHING_CHANGED: u8 = 7;
+        match (self, number) {
+            (Wrong::ThreeKeeps, 3)
+            | (Wrong::FourKeeps, 4)
+            | (Wrong::FiveKeeps, 5)
+            | (Wrong::SixKeeps, 6)
+            | (Wrong::EightForgives, 8)
+            | (Wrong::NineForgives, 9)
+            | (Wrong::TenKeeps, 10) => NOTHING_CHANGED,
+            (Wrong::SevenDrops, 7) => 3,
+            (Wrong::TenSpoils, 10) | (Wrong::ElevenSpoils, 11) => 8,
+            _ => number,
+        }
+    }
+
+    /// The kind whose set a kind of 2 to 4 adds to.
+    pub fn crossed(self, kind: u8) -> u8 {
+        match (self, kind) {
+            (Wrong::LitCrossed, 3) => 4,
+            (Wrong::LitCrossed, 4) => 3,
+            _ => kind,
+        }
+    }
+
+    pub fn clash(self, code: &Code) -> bool {
+        if self != Wrong::ClashOfLast {
+            return !code.commutes();
+        }
+        let last = code.z.iter().rev().take(1).cloned().collect();
+        let seen = Code { z: last, ..code.clone() };
+        !seen.commutes()
+    }
+
+    pub fn fixed(self, half: &Half) -> Vec<usize> {
+        let erased = |row: &&Row| row.iter().all(|&qubit| half.lost.get(qubit));
+        let rows = half.other.iter().filter(erased);
+        match self {
+            Wrong::FixNothing => Vec::new(),
+            Wrong::FixSingleRows => rows.map(|row| row[0]).collect(),
+            Wrong::FixEachRow => rows.fold(Vec::new(), |mut fixed, row| {
+                fixed.extend(row.iter().find(|qubit| !fixed.contains(*qubit)).copied());
+                fixed
+            }),
+            _ => judge::fixed(half),
+        }
+    }
+
+    /// The bits that a new guess can have.
+    pub fn form_bits(self) -> u64 {
+        match self {
+            Wrong::HalfForms => u64::MAX >> 32,
+            Wrong::TopLost => u64::MAX >> 1,
+            _ => u64::MAX,
+        }
+    }
+
+    /// The rows on which a guess is counted.
+    pub fn counted<'a>(self, half: &Half<'a>) -> Vec<&'a Row> {
+        match self {
+            Wrong::GuessLowest => Vec::new(),
+            Wrong::GuessByBoth => half.rows.iter().chain(half.other).collect(),
+            _ => half.rows.iter().collect(),
+        }
+    }
+}

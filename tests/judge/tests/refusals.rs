@@ -1,0 +1,131 @@
+//! The table of refusals, row by row, and what each one leaves.
+
+use judge::generate::{records, Mix};
+use judge::half::Asked;
+use judge::known::four;
+use judge::random::Random;
+use judge::records::{decode, load, number, row, sizes};
+use judge::strays::shortened;
+use judge::stream::{Answer, Lent, Model, Record, X_ROW, Z_ROW};
+use judge::wrong::Wrong;
+
+const SHORT: Lent = Lent { short: true, ..Lent::AMPLE };
+
+/// Refusal numbers, 0 where a record is carried out.
+fn numbers(calls: &[(Record, Lent)]) -> Vec<u8> {
+    let mut model = Model::new(Wrong::Nothing);
+    let number = |(record, lent): &(Record, Lent)| match model.step(record, *lent) {
+        Answer::Refused { number, .. } => number,
+        _ => 0,
+    };
+    calls.iter().map(number).collect()
+}
+
+/// The numbers that records get on the code Four, some with a short list.
+fn on_four(calls: &[(Record, Lent)]) -> Vec<u8> {
+    let loaded = load(&four()).into_iter().map(|record| (record, Lent::AMPLE));
+    let all: Vec<(Record, Lent)> = loaded.chain(calls.iter().cloned()).collect();
+    numbers(&all)[3..].to_vec()
+}
+
+fn ample(record: Record) -> (Record, Lent) {
+    (record, Lent::AMPLE)
+}
+
+fn short(record: Record) -> (Record, Lent) {
+    (record, SHORT)
+}
+
+fn lost(qubit: usize) -> Record {
+    number(2, qubit)
+}
+
+fn ask(budget: usize) -> Record {
+    decode(Asked { budget, limit: 9 })
+}
+
+#[test]
+fn unknown_and_length_spoil() {
+    for bad in [vec![], vec![6], vec![32], vec![2, 0], vec![1, 4, 0], vec![5, 1, 2, 3, 4]] {
+        let first = if bad.first().is_some_and(|&kind| kind > 5) { 1 } else { 2 };
+        assert_eq!(on_four(&[ample(bad), ample(ask(1)), ample(ask(1))]), [first, 11, 0]);
+    }
+}
+
+#[test]
+fn loading_goes_on() {
+    let x = row(X_ROW, &[0, 1]);
+    let calls = [
+        ample(sizes(2, 1, 1)),
+        ample(vec![7]),
+        ample(vec![]),
+        ample(lost(0)),
+        ample(ask(64)),
+        short(x.clone()),
+        ample(x),
+        ample(row(Z_ROW, &[0, 1])),
+        ample(ask(0)),
+    ];
+    assert_eq!(numbers(&calls), [0, 1, 2, 7, 7, 12, 0, 0, 0]);
+}
+
+#[test]
+fn sizes_place_and_row_drop_the_code() {
+    let out = [sizes(0, 0, 0), sizes(1025, 0, 0), sizes(1, 513, 0), sizes(1, 0, 513)];
+    for record in out {
+        assert_eq!(on_four(&[short(record), ample(lost(0))]), [3, 7]);
+    }
+    assert_eq!(on_four(&[short(row(X_ROW, &[9, 9])), ample(lost(0))]), [4, 7]);
+    for qubits in [[0, 4], [1, 1], [2, 1]] {
+        let calls = [ample(sizes(4, 1, 1)), short(row(X_ROW, &qubits)), ample(lost(0))];
+        assert_eq!(numbers(&calls), [0, 5, 7]);
+    }
+}
+
+#[test]
+fn clash_is_not_tried_on_short_lists() {
+    let z = row(Z_ROW, &[0]);
+    let start = [ample(sizes(1, 1, 1)), ample(row(X_ROW, &[0]))];
+    let calls = [short(z.clone()), ample(z.clone()), ample(z)];
+    assert_eq!(numbers(&[&start[..], &calls[..]].concat()), [0, 0, 12, 6, 4]);
+}
+
+#[test]
+fn range_and_twice_spoil() {
+    for (kind, end) in [(2, 4), (3, 1), (4, 1)] {
+        let past = [short(number(kind, end)), ample(ask(1)), ample(ask(1))];
+        assert_eq!(on_four(&past), [8, 11, 0]);
+        let zero = || ample(number(kind, 0));
+        let again = [zero(), zero(), zero(), ample(ask(64)), zero(), ample(ask(1))];
+        assert_eq!(on_four(&again), [0, 9, 9, 10, 0, 0]);
+    }
+}
+
+#[test]
+fn short_lists_change_nothing_but_end_a_shot() {
+    let kept = [short(sizes(1, 0, 0)), short(lost(0)), ample(lost(0)), short(lost(0))];
+    assert_eq!(on_four(&kept), [12, 12, 0, 12]);
+    let ended = [ample(lost(0)), short(ask(1)), ample(lost(0)), ample(ask(1))];
+    assert_eq!(on_four(&ended), [0, 12, 0, 0]);
+    let spoiled = [ample(lost(4)), short(ask(64)), ample(lost(4)), short(ask(1)), ample(ask(1))];
+    assert_eq!(on_four(&spoiled), [8, 10, 8, 11, 0]);
+}
+
+#[test]
+fn decode_lists_count_at_kind_5_only() {
+    let tight = |room| Lent { short: false, room };
+    let calls = [(lost(0), tight(0)), (ask(1), tight(3)), (lost(0), tight(0)), (ask(1), tight(4))];
+    assert_eq!(on_four(&calls), [0, 12, 0, 0]);
+}
+
+#[test]
+fn wild_streams_meet_every_refusal() {
+    let mut random = Random::new(1);
+    let mix = Mix { trouble: 30, wild: true, family: None };
+    let stream = records(&mut random, 500, mix);
+    let met = numbers(&shortened(&mut random, stream, 3));
+    for number in 0..=12 {
+        let times = met.iter().filter(|&&other| other == number).count();
+        assert!(times > 10, "{number} met {times} times");
+    }
+}
