@@ -16,7 +16,8 @@ use Rattle.binary.specs.Packed.{cell}
 use Rattle.binary.specs.Search.{second, Run, First, Later, former, Column, Clears, LeftAt}
 use Rattle.binary.proofs.Bits.{⊕-false, &&-false, never, bit}
 use Rattle.binary.proofs.Elimination.{Cleared}
-use Rattle.binary.proofs.Words.{order, bit-xor, other-cells, run-cells}
+use Rattle.binary.proofs.Words.{other-cells, run-cells}
+use Rattle.binary.proofs.WordBits.{order, bit-xor}
 
 ----------------------------------------------------------------------
 -- Rows without the column

@@ -3,6 +3,7 @@ pub mod Rows
 pub mod Tests
 pub mod Classes
 pub mod Elimination
+pub mod WordBits
 pub mod Words
 pub mod Put
 pub mod Columns

@@ -14,7 +14,7 @@ use Rattle.binary.specs.Search.{Clears, Left, LeftAt, Taken, Search}
 use Rattle.binary.proofs.Bits.{bit, never, beq-out, beq-in}
 use Rattle.binary.proofs.Rows.{all-out, has-below, product-below}
 use Rattle.binary.proofs.Elimination.{Cleared, RowOf, And, Before, left-start, left-cleared, left-blank, left-iff, left-same, fixed-yes, fixed-no, fixed-lost}
-use Rattle.binary.proofs.Words.{order}
+use Rattle.binary.proofs.WordBits.{order}
 use Rattle.binary.proofs.Columns.{row, column-cleared}
 
 ----------------------------------------------------------------------

@@ -1,17 +1,21 @@
--- What the private functions do: to words, to rows, to the rows left of an elimination.
---   second, none   what a word becomes: the other word; 0
+-- What the private functions ask, and what they do: to words, to rows, to the rows left of an elimination.
+--   RowIn          row i lies in the work list
+--   ColumnIn       column q, and the rows from top on, lie in the work list
+--   ColumnsIn      n columns, and the rows from top on, lie in the lists
+--   second         the second of two words
 --   Run            each of n words becomes f of itself and its word of another run
 --   BitsSet        the bits of a set are set in row i
 --   First          the first row from top on with column q
 --   Later          row i is added to each later row that has column q
---   former         the place that a row had before row i left
---   Column         column q is cleared: the first row with it leaves, and is added to each other row that has it
+--   former         the place that the row at j had before row i left
+--   Column         row i clears column q: it is added to each other row that has it, and leaves; row top takes its place
 --   Clears         the answer says whether a row cleared the column
 --   Sums           the sums of finitely many sets
 --   Left           the sums of the rows left are the products of all rows that are 0 on the columns taken
 --   LeftAt         the rows left stand at the places from top on
---   Taken          the columns taken in a pass, up to q: first the columns not lost, then the lost ones
---   Search         a pass that has come to column q
+--   Base           the columns taken before a pass: none, or those that are not lost
+--   Taken          the columns taken when a pass comes to column q
+--   Search         a pass has come to column q
 --   Goes           a pass goes from column q to column q′
 use mathlib.Core.Path.{_≡_}
 use mathlib.Core.Bool.{Bool, true, false, cond, _&&_, _||_}
@@ -19,19 +23,28 @@ use mathlib.Core.Logic.{_⊎_}
 use mathlib.Core.List.{List}
 use Prim.Native.Nat.{ℕ, _+_, _*_, _≤_, _<_}
 use lib.Dec.{eqb, ltb}
-use lib.ListN.{getD}
+use lib.ListN.{length, getD}
 use Rattle.binary.specs.Bits.{_⊕_}
 use Rattle.binary.specs.Meaning.{Qubits, Row, IsProduct, Below, fixed?}
 use Rattle.binary.specs.Packed.{cell, listed}
+
+----------------------------------------------------------------------
+-- What lies in the lists
+
+abbrev pub RowIn : ℕ → ℕ → List ℕ → Type 0
+RowIn w i m = i * w + w ≤ length m
+
+abbrev pub ColumnIn : ℕ → ℕ → ℕ → ℕ → List ℕ → Type 0
+ColumnIn w top rows q m = (q < 64 * w) × (top ≤ rows) × (rows * w ≤ length m)
+
+abbrev pub ColumnsIn : ℕ → ℕ → ℕ → ℕ → List ℕ → List ℕ → List ℕ → Type 0
+ColumnsIn n w top rows lost work marks = (n ≤ 64 * w) × (top ≤ rows) × (rows * w ≤ length work) × (n ≤ length lost) × (n ≤ length marks)
 
 ----------------------------------------------------------------------
 -- Words
 
 abbrev pub second : ℕ → ℕ → ℕ
 second x y = y
-
-abbrev pub none : ℕ → ℕ → ℕ
-none x y = 0
 
 -- The words from b on, by those from a on. The others stay.
 pub record Run (f : ℕ → ℕ → ℕ) (a b n : ℕ) (m m′ : List ℕ) : Type 0 where
@@ -58,7 +71,6 @@ pub record Later (w i n q : ℕ) (m m′ : List ℕ) : Type 0 where
   pub added : (j c : ℕ) → i < j → j < n → c < 64 * w → cell m′ w j c ≡ cell m w j c ⊕ (cell m w j q && cell m w i c)
   pub kept : (j c : ℕ) → (j ≤ i) ⊎ (n ≤ j) → c < 64 * w → cell m′ w j c ≡ cell m w j c
 
--- Row top moves to place i.
 abbrev pub former : ℕ → ℕ → ℕ → ℕ
 former top i j = cond (eqb j i) top j
 
@@ -69,7 +81,6 @@ pub record Column (w top rows q : ℕ) (m m′ : List ℕ) (i : ℕ) : Type 0 wh
   pub cells : (j c : ℕ) → top < j → j < rows → c < 64 * w
       → cell m′ w j c ≡ cell m w (former top i j) c ⊕ (cell m w (former top i j) q && cell m w i c)
 
--- r says whether some row cleared the column.
 pub record Clears (w top rows q : ℕ) (m m′ : List ℕ) (r : Bool) : Type 0 where
   pub cleared : r ≡ true → (i : ℕ) × Column w top rows q m m′ i
   pub same : r ≡ false → m′ ≡ m
@@ -91,7 +102,6 @@ pub record Left (rows : List Row) (taken : ℕ → Type 0) (M : Qubits → Type 
 abbrev pub LeftAt : ℕ → ℕ → ℕ → ℕ → List ℕ → Qubits → Type 0
 LeftAt n w top rows m a = (i : ℕ) × (top ≤ i) × (i < rows) × ((q : ℕ) → a q ≡ (ltb q n && cell m w i q))
 
--- The columns taken before a pass.
 abbrev pub Base : Qubits → Bool → ℕ → Type 0
 Base lost false p = ⊥
 Base lost true p = lost p ≡ false
@@ -99,7 +109,7 @@ Base lost true p = lost p ≡ false
 abbrev pub Taken : Qubits → Bool → ℕ → ℕ → Type 0
 Taken lost pass q p = Base lost pass p ⊎ ((lost p ≡ pass) × (p < q))
 
--- The pass over the lost columns marks the fixed qubits; marks are as they were from q on.
+-- `pass` says whether it takes the lost columns, and marks the fixed qubits. Marks from q on are as they were.
 pub record Search (n w rows : ℕ) (rs : List Row) (lost : Qubits) (pass : Bool) (marks₀ : List ℕ) (q top : ℕ) (m marks : List ℕ) : Type 0 where
   pub left : Left rs (Taken lost pass q) (LeftAt n w top rows m)
   pub marked : (p : ℕ) → p < q → getD marks p 0 ≡ cond (pass && fixed? n rs lost p) 1 (getD marks₀ p 0)

@@ -1,12 +1,12 @@
 // Binary linear algebra: rows packed into the words of a lent list, and the search for the fixed qubits.
 ghost use mathlib.Core.Path.{_≡_};
-ghost use Prim.Native.Nat.{_+_, _*_, _<_, _≤_};
+ghost use Prim.Native.Nat.{_+_, _*_, _<_};
 ghost use lib.Bits.{bitXor};
 ghost use lib.Dec.{eqb};
-ghost use lib.ListN.{length, getD};
+ghost use lib.ListN.{getD};
 ghost use Rattle.binary.specs.Meaning.{has};
 ghost use Rattle.binary.specs.Packed.{bit, wordsFor, Put, enough, Marked};
-ghost use Rattle.binary.specs.Search.{second, none, Run, BitsSet, First, Later, Clears, Goes};
+ghost use Rattle.binary.specs.Search.{RowIn, ColumnIn, ColumnsIn, second, Run, BitsSet, First, Later, Clears, Goes};
 
 // A qubit as an index.
 fn index(x: u16) -> usize
@@ -22,22 +22,9 @@ pub fn words_for(n: u16) -> usize
     (n as usize + 63) / 64
 }
 
-// Row `i` is emptied.
-fn clear_row(m: &mut [u64], w: usize, i: usize)
-    requires { ⌜ i * w + w ≤ length (now m) ⌝ }
-    ensures { λ _. ⌜ Run none (i * w) (i * w) w (now (m .entry)) (now (m .exit)) ⌝ }
-{
-    let b = i * w;
-    let mut k = 0;
-    while k < w {
-        m[b + k] = 0;
-        k += 1;
-    }
-}
-
-// Row `from` is added to row `to`.
+// Row `from` is added to row `to`. A row added to itself is emptied.
 fn add_row(m: &mut [u64], w: usize, from: usize, to: usize)
-    requires { ⌜ (from * w + w ≤ length (now m)) × (to * w + w ≤ length (now m)) ⌝ }
+    requires { ⌜ RowIn w from (now m) × RowIn w to (now m) ⌝ }
     ensures { λ _. ⌜ Run bitXor (from * w) (to * w) w (now (m .entry)) (now (m .exit)) ⌝ }
 {
     let a = from * w;
@@ -51,7 +38,7 @@ fn add_row(m: &mut [u64], w: usize, from: usize, to: usize)
 
 // Row `from` is copied to row `to`.
 fn copy_row(m: &mut [u64], w: usize, from: usize, to: usize)
-    requires { ⌜ (from * w + w ≤ length (now m)) × (to * w + w ≤ length (now m)) ⌝ }
+    requires { ⌜ RowIn w from (now m) × RowIn w to (now m) ⌝ }
     ensures { λ _. ⌜ Run second (from * w) (to * w) w (now (m .entry)) (now (m .exit)) ⌝ }
 {
     let a = from * w;
@@ -65,7 +52,7 @@ fn copy_row(m: &mut [u64], w: usize, from: usize, to: usize)
 
 // Bit `q` of row `i` is set, if the row has it.
 fn set_bit(m: &mut [u64], w: usize, i: usize, q: usize)
-    requires { ⌜ i * w + w ≤ length (now m) ⌝ }
+    requires { ⌜ RowIn w i (now m) ⌝ }
     ensures { λ _. ⌜ BitsSet w i (eqb q) (now (m .entry)) (now (m .exit)) ⌝ }
 {
     let k = q / 64;
@@ -78,7 +65,7 @@ fn set_bit(m: &mut [u64], w: usize, i: usize, q: usize)
 
 // The bits of `row` are set in row `i`.
 fn set_bits(m: &mut [u64], w: usize, i: usize, row: &[u16])
-    requires { ⌜ i * w + w ≤ length (now m) ⌝ }
+    requires { ⌜ RowIn w i (now m) ⌝ }
     ensures { λ _. ⌜ BitsSet w i (has (now (row .entry))) (now (m .entry)) (now (m .exit)) ⌝ }
 {
     let mut j = 0;
@@ -101,14 +88,14 @@ pub fn put_row(work: &mut [u64], words: usize, i: usize, row: &[u16]) -> bool
     if work.len() < (i + 1) * words {
         return false;
     }
-    clear_row(work, words, i);
+    add_row(work, words, i, i);
     set_bits(work, words, i, row);
     true
 }
 
 // Bit `b` of word `k` of row `i`.
 fn has_bit(m: &[u64], w: usize, i: usize, k: usize, b: usize) -> bool
-    requires { ⌜ (i * w + w ≤ length (now m)) × (k < w) × (b < 64) ⌝ }
+    requires { ⌜ RowIn w i (now m) × (k < w) × (b < 64) ⌝ }
     ensures { λ r. ⌜ r ≡ bit (getD (now (m .entry)) (i * w + k) 0) b ⌝ }
 {
     (m[i * w + k] >> b) % 2 == 1
@@ -116,7 +103,7 @@ fn has_bit(m: &[u64], w: usize, i: usize, k: usize, b: usize) -> bool
 
 // The first row from `top` on that has column `q`, or `rows` where there is none.
 fn find_row(m: &[u64], w: usize, top: usize, rows: usize, q: usize) -> usize
-    requires { ⌜ (q < 64 * w) × (top ≤ rows) × (rows * w ≤ length (now m)) ⌝ }
+    requires { ⌜ ColumnIn w top rows q (now m) ⌝ }
     ensures { λ r. ⌜ First w top rows q (now (m .entry)) r ⌝ }
 {
     let k = q / 64;
@@ -133,7 +120,7 @@ fn find_row(m: &[u64], w: usize, top: usize, rows: usize, q: usize) -> usize
 
 // Row `i` is added to each later row that has column `q`.
 fn add_later(m: &mut [u64], w: usize, i: usize, rows: usize, q: usize)
-    requires { ⌜ (q < 64 * w) × (i < rows) × (rows * w ≤ length (now m)) ⌝ }
+    requires { ⌜ (i < rows) × ColumnIn w i rows q (now m) ⌝ }
     ensures { λ _. ⌜ Later w i rows q (now (m .entry)) (now (m .exit)) ⌝ }
 {
     let k = q / 64;
@@ -149,7 +136,7 @@ fn add_later(m: &mut [u64], w: usize, i: usize, rows: usize, q: usize)
 
 // Clears column `q` of the rows from `top` on: the first row with it leaves, and row `top` takes its place. Answers whether there was one.
 fn clear_column(m: &mut [u64], w: usize, top: usize, rows: usize, q: usize) -> bool
-    requires { ⌜ (q < 64 * w) × (top ≤ rows) × (rows * w ≤ length (now m)) ⌝ }
+    requires { ⌜ ColumnIn w top rows q (now m) ⌝ }
     ensures { λ r. ⌜ Clears w top rows q (now (m .entry)) (now (m .exit)) r ⌝ }
 {
     let i = find_row(m, w, top, rows, q);
@@ -164,7 +151,8 @@ fn clear_column(m: &mut [u64], w: usize, top: usize, rows: usize, q: usize) -> b
     true
 }
 
-// Column `q`, if the pass takes it: the lost columns, or the others. A lost column that a row clears is marked. Returns the new top.
+// Clears column `q`, if the pass takes it: it takes the lost columns if `pass` is true, and else the others. A lost column that a row
+// clears is marked. Returns the new top.
 fn take_column(
     work: &mut [u64],
     marks: &mut [u8],
@@ -176,7 +164,7 @@ fn take_column(
     q: usize,
     pass: bool,
 ) -> usize
-    requires { ⌜ (q < n) × (n ≤ 64 * w) × (top ≤ rows) × (rows * w ≤ length (now work)) × (n ≤ length (now lost)) × (n ≤ length (now marks)) ⌝ }
+    requires { ⌜ (q < n) × ColumnsIn n w top rows (now lost) (now work) (now marks) ⌝ }
     ensures { λ r. ⌜ Goes n w rows (now (lost .entry)) pass q (q + 1) top (now (work .entry)) (now (marks .entry)) r (now (work .exit)) (now (marks .exit)) ⌝ }
 {
     let gone = lost[q] == 1;
@@ -206,7 +194,7 @@ fn take_columns(
     first: usize,
     pass: bool,
 ) -> usize
-    requires { ⌜ (n ≤ 64 * w) × (first ≤ rows) × (rows * w ≤ length (now work)) × (n ≤ length (now lost)) × (n ≤ length (now marks)) ⌝ }
+    requires { ⌜ ColumnsIn n w first rows (now lost) (now work) (now marks) ⌝ }
     ensures { λ r. ⌜ Goes n w rows (now (lost .entry)) pass 0 n first (now (work .entry)) (now (marks .entry)) r (now (work .exit)) (now (marks .exit)) ⌝ }
 {
     let mut top = first;

@@ -112,7 +112,7 @@ pub fn ascending(n: u16, qubits: &[u16]) -> bool
 }
 
 // Whether the row has the qubit.
-fn contains(row: &[u16], q: Qubit) -> bool
+pub fn contains(row: &[u16], q: Qubit) -> bool
     ensures { λ r. ⌜ r ≡ has (now (row .entry)) (q .0) ⌝ }
 {
     let mut i: usize = 0;

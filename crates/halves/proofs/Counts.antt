@@ -89,6 +89,29 @@ module _ (checks : List Check) (n : ℕ) (choose : Qubits → Option ℕ) (rule 
       (λ st p e c. counted-settle st p 3 _ (rule .names-open (isOpen (st .mark)) p e) refl refl refl
       (λ l i. ap₂ _+_ (keep n p 3 (st .mark) l i 2 refl refl) (up n p 3 (st .mark) l i 3 refl refl) ∙ omega arith) c)
 
+-- The turns made and the open qubits, which lie below n, stay the same in all.
+abbrev pub OpenAt : ℕ → ℕ → Stage → Type 0
+OpenAt n total (on st) = (st .turns + marked n (st .mark) 4 ≡ total) × ((q : ℕ) → isOpen (st .mark) q ≡ true → q < n)
+OpenAt n total (failed st) = (st .turns + marked n (st .mark) 4 ≡ total) × ((q : ℕ) → isOpen (st .mark) q ≡ true → q < n)
+
+pub open-turn : (checks : List Check) (n : ℕ) (choose : Qubits → Option ℕ) → Rule n choose → (total : ℕ) (st : State) → OpenAt n total (on st)
+    → OpenAt n total (turn checks n choose st)
+open-turn checks n choose rule total =
+    turn-keeps checks n choose (OpenAt n total)
+    (λ st d e v. settles st (d .0) 2 _ (part-open (isOpen (st .mark)) (d .1 .row) (d .0) [] (dangling-is (isOpen (st .mark)) checks d e .0)) refl v)
+    (λ st p e v. settles st p 3 _ (rule .names-open (isOpen (st .mark)) p e) refl v)
+  where
+    at-stage : (mark : ℕ → ℕ) (turns : ℕ) (r : Option Forms) → OpenAt n total (on (record { mark = mark; forms = blank; turns = turns })) → OpenAt n total (stage mark turns r)
+    at-stage mark turns none v = v
+    at-stage mark turns (some fs) v = v
+
+    settles : (st : State) (p m : ℕ) (fs : Forms) → isOpen (st .mark) p ≡ true → eqb m 4 ≡ false → OpenAt n total (on st) → OpenAt n total (settle checks st p m fs)
+    settles st p m fs o d v =
+        let l = v .1 p o in
+        let e = eqb-eq (st .mark p) 4 o in
+        at-stage (put p m (st .mark)) (suc (st .turns)) (takeUpAll (closing (st .mark) (put p m (st .mark))) checks fs)
+        (omega (arith, v .0, down n p m (st .mark) l e d), still-below n p m (st .mark) l e d (v .1))
+
 start-not : (k : ℕ) → eqb 0 k ≡ false → eqb 1 k ≡ false → eqb 4 k ≡ false → (a b : Bool) → eqb (cond a (cond b 1 4) 0) k ≡ false
 start-not k x y z true true = y
 start-not k x y z true false = z

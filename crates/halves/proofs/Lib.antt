@@ -10,3 +10,17 @@ pub mod Counts
 pub mod Verdicts
 pub mod Demands
 pub mod Seen
+pub mod FormBits
+pub mod FormWords
+pub mod FormRows
+pub mod Scanning
+pub mod ListFills
+pub mod Degrees
+pub mod Choices
+pub mod Turning
+pub mod Moves
+pub mod Running
+pub mod Starting
+pub mod HalfRuns
+pub mod Finishing
+pub mod HalfDecodes

@@ -9,7 +9,7 @@ use mathlib.Core.List.{List}
 use lib.ListN.{getD}
 use Rattle.binary.specs.Meaning.{Qubits}
 use Rattle.binary.proofs.Bits.{bit as cases, eqb-eq, &&-false}
-use Rattle.binary.proofs.Words.{bit-zero}
+use Rattle.binary.proofs.WordBits.{order, bit-zero}
 use Rattle.halves.specs.Words.{finished?}
 use Rattle.halves.specs.Machine.{Form, End, Half, isSettled, decoded}
 use Rattle.halves.specs.Fillings.{filling}
@@ -23,10 +23,6 @@ use Rattle.halves.proofs.Demands.{counts}
 ----------------------------------------------------------------------
 -- Views
 
-pub below-or-not : (q n : ℕ) → (q < n) ⊎ (n ≤ q)
-below-or-not q n =
-    cases (ltb q n) (λ e. inl (ltb→lt q n (subst T (sym e) tt))) (λ e. inr (nltb→le q n (subst (λ (b : Bool). T (not b)) (sym e) tt)))
-
 pub ltb-yes : (q n : ℕ) → q < n → ltb q n ≡ true
 ltb-yes q n l = cases (ltb q n) (λ e. e) (λ e. absurd (subst T e (lt→ltb q n l)))
 
@@ -36,7 +32,7 @@ ltb-no q n l = cases (ltb q n) (λ e. let i = ltb→lt q n (subst T (sym e) tt) 
 -- A list that holds a function's values below n, where the function is 0 from n on.
 pub view-is : (n : ℕ) (l : List ℕ) (f : ℕ → ℕ) → ((q : ℕ) → q < n → getD l q 0 ≡ f q) → ((q : ℕ) → n ≤ q → f q ≡ 0) → (q : ℕ) → view n l q ≡ f q
 view-is n l f h k q =
-    ⊎-elim (λ i. rw (ltb-yes q n i) (h q i)) (λ i. rw (ltb-no q n i) (sym (k q i))) (below-or-not q n)
+    ⊎-elim (λ i. rw (ltb-yes q n i) (h q i)) (λ i. rw (ltb-no q n i) (sym (k q i))) (order q n)
 
 ----------------------------------------------------------------------
 -- Past n
@@ -92,9 +88,9 @@ seen-is h obeys budget limit old new s =
     forms : (q k : ℕ) → formsOf (h .size) (new .forms) q k ≡ o .form q k
     forms q k =
         ⊎-elim (λ l. rw (ltb-yes q (h .size) l) (s .forms q l k))
-        (λ l. rw (ltb-no q (h .size) l) (bit-zero k ∙ sym (form-past h obeys budget limit q l k))) (below-or-not q (h .size))
+        (λ l. rw (ltb-no q (h .size) l) (bit-zero k ∙ sym (form-past h obeys budget limit q l k))) (order q (h .size))
 
     flips : (q : ℕ) → eqb (view (h .size) (new .correction) q) 1 ≡ o .flip q
     flips q =
         ⊎-elim (λ l. rw (ltb-yes q (h .size) l) (ap (λ (x : ℕ). eqb x 1) (s .correction q l) ∙ digit-bit (o .flip q)))
-        (λ l. rw (ltb-no q (h .size) l) (sym (flip-past h obeys budget limit q l))) (below-or-not q (h .size))
+        (λ l. rw (ltb-no q (h .size) l) (sym (flip-past h obeys budget limit q l))) (order q (h .size))

@@ -53,7 +53,7 @@ dangling-is o (c ∷ cs) d e = look (part o (c .row)) refl e (dangling-is o cs d
         subst (λ (x : ℕ × Check). (part o (x .1 .row) ≡ x .0 ∷ []) × List·Memᴰ (x .1) (c ∷ cs)) z (i, List·Memᴰ·head refl)
     look (p ∷ (q ∷ l)) i e′ h = (h e′ .0, List·Memᴰ·tail (h e′ .1))
 
-open-put : (p m : ℕ) (mark : ℕ → ℕ) → eqb m 4 ≡ false → isOpen (put p m mark) ≡ put p false (isOpen mark)
+pub open-put : (p m : ℕ) (mark : ℕ → ℕ) → eqb m 4 ≡ false → isOpen (put p m mark) ≡ put p false (isOpen mark)
 open-put p m mark e = fun-ext λ q. bit (eqb p q) (λ t. rw (t, e)) (λ t. rw t)
 
 pub start-open : (lost fixed : Bool) → eqb (cond lost (cond fixed 1 4) 0) 4 ≡ (lost && not fixed)

@@ -6,3 +6,7 @@ pub mod Bench
 pub mod Demands
 pub mod Lists
 pub mod Decode
+pub mod Sides
+pub mod Scans
+pub mod Turns
+pub mod Starts

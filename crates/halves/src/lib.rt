@@ -2,6 +2,14 @@
 ghost use mathlib.Core.Path.{_≡_};
 ghost use Rattle.halves.specs.Words.{finished?};
 ghost use Rattle.halves.specs.Decode.{Given, HalfLists, Decodes};
+
+mod decode;
+mod fills;
+mod forms;
+mod guesses;
+mod rows;
+mod turns;
+
 use code::Qubit;
 use code::Row;
 
@@ -54,6 +62,19 @@ enum Taken {
     Live(u16),
 }
 
+// A turn, or that the budget is spent.
+enum Move {
+    Spent,
+    Made(Taken),
+}
+
+// How a half ended: the word, the turns made and the live guesses.
+struct Ended {
+    word: Word,
+    turns: u16,
+    live: u16,
+}
+
 // Whether the word is said of a finished half, which has flips.
 pub fn is_finished(w: Word) -> bool
     ensures { λ r. ⌜ r ≡ finished? w ⌝ }
@@ -65,4 +86,61 @@ pub fn is_finished(w: Word) -> bool
         Word::Spent => false,
         Word::Stopped => false,
     }
+}
+
+// The decode of one half: its own rows are `count` from row `first` on, the other kind's `others` from row `other` on.
+pub fn decode_half(
+    n: u16,
+    flat: &[u16],
+    ends: &[u16],
+    lost: &[u8],
+    lit: &[u8],
+    first: Row,
+    count: u16,
+    other: Row,
+    others: u16,
+    budget: u8,
+    limit: u16,
+    work: &mut [u64],
+    marks: &mut [u8],
+    forms: &mut [u64],
+    correction: &mut [u8],
+) -> HalfAnswer
+    ensures { λ r. ⌜ Decodes (record { n = n; flat = now (flat .entry); ends = now (ends .entry); lost = now (lost .entry); lit = now (lit .entry); first = first .0; count = count; other = other .0; others = others; budget = budget; limit = limit }) (now (work .entry)) (now (work .exit)) (record { marks = now (marks .entry); forms = now (forms .entry); correction = now (correction .entry) }) (record { marks = now (marks .exit); forms = now (forms .exit); correction = now (correction .exit) }) r ⌝ }
+{
+    let own = first.0;
+    let kind = other.0;
+    if !decode::fits(
+        n,
+        lost,
+        lit,
+        own,
+        count,
+        kind,
+        others,
+        budget,
+        work,
+        marks,
+        forms,
+        correction,
+    ) {
+        return HalfAnswer::Refused;
+    }
+    HalfAnswer::Decoded(decode::decode(
+        n,
+        flat,
+        ends,
+        lost,
+        lit,
+        own,
+        count,
+        kind,
+        others,
+        budget,
+        limit,
+        work,
+        marks,
+        forms,
+        correction,
+    ))
 }

@@ -1,0 +1,65 @@
+-- What a half leaves in its lists, by its word. Assumes nothing.
+use mathlib.Core.Path.{_≡_, refl, sym, ap, _∙_}
+use mathlib.Core.Bool.{Bool, true, false, cond}
+use mathlib.Core.List.{List}
+use Prim.Native.Nat.{ℕ, _%_, _<_}
+use lib.ListN.{getD}
+use Rattle.binary.proofs.Bits.{never}
+use Rattle.halves.specs.declared.Word.{Word}
+use Rattle.halves.specs.declared.Word.the-variants.{Certain, Unsure, None, Spent, Stopped}
+use Rattle.halves.specs.declared.HalfReport.{HalfReport}
+use Rattle.halves.specs.declared.Ended.{Ended}
+use Rattle.halves.specs.Words.{finished?}
+use Rattle.halves.specs.Report.{marked, none?}
+use Rattle.halves.specs.Lists.{view}
+use Rattle.halves.specs.Scans.{Filled}
+use Rattle.halves.specs.Starts.{reportBy, Finished}
+
+-- A list that is not written, and one written by a function that agrees.
+same-filled : (f : ℕ → ℕ) (n : ℕ) (l : List ℕ) → ((q : ℕ) → getD l q 0 ≡ f q) → Filled f n l l
+same-filled f n l h = record { long = refl; first = λ q i. h q; rest = λ q i. refl }
+
+as-filled : (f g : ℕ → ℕ) (n : ℕ) (l l′ : List ℕ) → ((q : ℕ) → f q ≡ g q) → Filled f n l l′ → Filled g n l l′
+as-filled f g n l l′ h v = record { long = v .long; first = λ q i. v .first q i ∙ h q; rest = v .rest }
+
+pub not-none : (w : Word) → finished? w ≡ true → none? w ≡ false
+not-none Certain e = refl
+not-none Unsure e = refl
+not-none None e = never e refl
+not-none Spent e = refl
+not-none Stopped e = refl
+
+module _ (n : ℕ) (w : Word) (marks forms correction : List ℕ) where
+  abbrev Done : List ℕ → List ℕ → List ℕ → Type 0
+  Done marks′ forms′ correction′ =
+      Finished n w (record { marks = marks; forms = forms; correction = correction }) (record { marks = marks′; forms = forms′; correction = correction′ })
+
+  kept : (l : List ℕ) → none? w ≡ false → Filled (λ q. cond (none? w) 0 (getD l q 0)) n l l
+  kept l e = same-filled (λ q. cond (none? w) 0 (getD l q 0)) n l (λ q. rw e)
+
+  pub finish-flips : (correction′ : List ℕ) → finished? w ≡ true → Filled (λ q. getD forms q 0 % 2) n correction correction′ → Done marks forms correction′
+  finish-flips correction′ e f =
+      record {
+        marks = kept marks (not-none w e);
+        forms = kept forms (not-none w e);
+        correction = as-filled (λ q. getD forms q 0 % 2) (λ q. cond (finished? w) (getD forms q 0 % 2) 0) n correction correction′ (λ q. rw e) f;
+      }
+
+  module _ (correction′ : List ℕ) (e : finished? w ≡ false) (f : Filled (λ q. 0) n correction correction′) where
+    blank : Filled (λ q. cond (finished? w) (getD forms q 0 % 2) 0) n correction correction′
+    blank = as-filled (λ q. 0) (λ q. cond (finished? w) (getD forms q 0 % 2) 0) n correction correction′ (λ q. rw e) f
+
+    pub finish-open : none? w ≡ false → Done marks forms correction′
+    finish-open i = record { marks = kept marks i; forms = kept forms i; correction = blank }
+
+    pub finish-none : (marks′ forms′ : List ℕ) → none? w ≡ true → Filled (λ q. 0) n marks marks′ → Filled (λ q. 0) n forms forms′ → Done marks′ forms′ correction′
+    finish-none marks′ forms′ i m g =
+        record {
+          marks = as-filled (λ q. 0) (λ q. cond (none? w) 0 (getD marks q 0)) n marks marks′ (λ q. rw i) m;
+          forms = as-filled (λ q. 0) (λ q. cond (none? w) 0 (getD forms q 0)) n forms forms′ (λ q. rw i) g;
+          correction = blank;
+        }
+
+pub report-is : (n : ℕ) (e : Ended) (marks : List ℕ) (x y : ℕ) → x ≡ marked n (view n marks) 1 → y ≡ marked n (view n marks) 3
+    → _≡_ {A = HalfReport} (record { word = e .word; fixed = x; turns = e .turns; guesses = y; live = e .live }) (reportBy n e marks)
+report-is n e marks x y a b = λ i. record { word = e .word; fixed = a i; turns = e .turns; guesses = b i; live = e .live }

@@ -1,0 +1,159 @@
+-- The lists that a half's decode leaves show the machine's outcome. Assumes nothing.
+use mathlib.Core.Path.{_≡_, refl, sym, ap, ap₂, _∙_, subst}
+use mathlib.Core.Bool.{Bool, true, false, not, _&&_, cond}
+use mathlib.Core.Logic.{⊎-elim}
+use mathlib.Core.List.{List}
+use Prim.Native.Nat.{ℕ, _+_, _/_, _%_, _^_, _≤_, _<_}
+use native.Mathlib.Nat.{div-one, eq-zero-or-pos}
+use native.Mathlib.Omega.{arith}
+use lib.Dec.{eqb, leb, ltb}
+use lib.ListN.{length, getD}
+use borrow.Author.Tests.{lt-ltb, leb-true}
+use Rattle.binary.specs.Meaning.{All}
+use Rattle.binary.specs.Packed.{bit}
+use Rattle.binary.proofs.Bits.{bit as cases, never, and-out}
+use Rattle.binary.proofs.WordBits.{bit-zero}
+use Rattle.code.specs.Lists.{rowsFrom}
+use Rattle.code.specs.Tests.{Ascending}
+use Rattle.halves.specs.declared.Word.{Word}
+use Rattle.halves.specs.declared.HalfReport.{HalfReport}
+use Rattle.halves.specs.declared.HalfAnswer.the-variants.{Refused, Decoded}
+use Rattle.halves.specs.declared.Ended.{Ended}
+use Rattle.halves.specs.Words.{finished?}
+use Rattle.halves.specs.Machine.{Form, End, decoded}
+use Rattle.halves.specs.Fillings.{filling}
+use Rattle.halves.specs.Report.{marked, none?, report, shown, outcome}
+use Rattle.halves.specs.Lists.{view, formsOf}
+use Rattle.halves.specs.Decode.{HalfLists, digit, Shows, SameLengths, Given, fitting, Decodes}
+use Rattle.halves.specs.Turns.{RowLists, Qubitwise, EndedAs}
+use Rattle.halves.specs.Starts.{halfIn, HalfRun, reportBy, Finished, fits?, HalfDone}
+use Rattle.halves.proofs.Values.{value-off}
+use Rattle.halves.proofs.Finishing.{not-none}
+
+digit-constant : (x : ℕ) → x % 2 ≡ digit (bit x 0)
+unfolding bit
+digit-constant x = ⊎-elim (λ (e : x % 2 ≡ 0). e ∙ ap digit (sym (low e))) (λ (p : 0 < x % 2). let e : x % 2 ≡ 1 = omega arith in e ∙ ap digit (sym (high e))) (eq-zero-or-pos (x % 2))
+  where
+    low : x % 2 ≡ 0 → eqb (x / 2 ^ 0 % 2) 1 ≡ false
+    low e = ap (λ (y : ℕ). eqb (y % 2) 1) (div-one x) ∙ ap (λ (y : ℕ). eqb y 1) e
+
+    high : x % 2 ≡ 1 → eqb (x / 2 ^ 0 % 2) 1 ≡ true
+    high e = ap (λ (y : ℕ). eqb (y % 2) 1) (div-one x) ∙ ap (λ (y : ℕ). eqb y 1) e
+
+module _ (n : ℕ) (old mid : Qubitwise) (correction : List ℕ) (new : HalfLists) (r : Ended) (e : End) (v : EndedAs n old mid r e)
+    (f : Finished n (r .word) (record { marks = mid .marks; forms = mid .forms; correction = correction }) new) where
+  at : (l : List ℕ) (q : ℕ) → q < n → view n l q ≡ getD l q 0
+  at l q i = rw (lt-ltb q n i)
+
+  form-at : none? (e .word) ≡ false → (q : ℕ) → q < n → (k : ℕ) → bit (getD (mid .forms) q 0) k ≡ e .state .forms .form q k
+  form-at j q i k = ap (λ (x : ℕ). bit x k) (sym (at (mid .forms) q i)) ∙ ap (λ (g : ℕ → Form). g q k) (v .forms j)
+
+  marks-shown : (q : ℕ) → q < n → getD (new .marks) q 0 ≡ cond (none? (e .word)) 0 (e .state .mark q)
+  marks-shown q i =
+      f .marks .first q i
+      ∙ ap₂ (λ (w : Word) (x : ℕ). cond (none? w) 0 x) (v .word) (sym (at (mid .marks) q i) ∙ ap (λ (g : ℕ → ℕ). g q) (v .marks))
+
+  forms-shown : (q : ℕ) → q < n → (k : ℕ) → bit (getD (new .forms) q 0) k ≡ (not (none? (e .word)) && e .state .forms .form q k)
+  forms-shown q i k =
+      ap (λ (x : ℕ). bit x k) (f .forms .first q i ∙ ap (λ (w : Word). cond (none? w) 0 (getD (mid .forms) q 0)) (v .word))
+      ∙ cases (none? (e .word)) (λ j. rw j (bit-zero k)) (λ j. rw j (form-at j q i k))
+
+  flips-shown : (q : ℕ) → q < n → getD (new .correction) q 0
+      ≡ digit (finished? (e .word) && filling (e .state .forms .live) (e .state .forms .form) (λ k. false) q)
+  flips-shown q i =
+      f .correction .first q i ∙ ap (λ (w : Word). cond (finished? w) (getD (mid .forms) q 0 % 2) 0) (v .word)
+      ∙ cases (finished? (e .word))
+      (λ j. rw j (digit-constant (getD (mid .forms) q 0)
+      ∙ ap digit (form-at (not-none (e .word) j) q i 0 ∙ sym (value-off (e .state .forms .live) (e .state .forms .form q)))))
+      (λ j. rw j)
+
+  pub ended-shows : (marks forms : List ℕ) → old ≡ record { marks = marks; forms = forms }
+      → Shows n (shown n e) (record { marks = marks; forms = forms; correction = correction }) new
+  unfolding shown
+  ended-shows marks forms same =
+      record {
+        marks = marks-shown;
+        forms = forms-shown;
+        correction = flips-shown;
+        marks-rest = λ q i. f .marks .rest q i ∙ v .kept .marks-rest q i ∙ ap (λ (l : Qubitwise). getD (l .marks) q 0) same;
+        forms-rest = λ q i. f .forms .rest q i ∙ v .kept .forms-rest q i ∙ ap (λ (l : Qubitwise). getD (l .forms) q 0) same;
+        correction-rest = λ q i. f .correction .rest q i;
+      }
+
+  pub ended-report : reportBy n r (mid .marks) ≡ shown n e .report
+  unfolding shown
+  ended-report = λ i. record { word = v .word i; fixed = marked n (v .marks i) 1; turns = v .turns i; guesses = marked n (v .marks i) 3; live = v .live i }
+
+pub half-done : (n : ℕ) (c : RowLists) (lost : List ℕ) (other others budget limit : ℕ) (marks forms correction : List ℕ) (mid : Qubitwise) (new : HalfLists)
+    (e : Ended) (r : HalfReport) → HalfRun n c lost other others budget limit (record { marks = marks; forms = forms }) mid e
+    → r ≡ reportBy n e (mid .marks) → Finished n (e .word) (record { marks = mid .marks; forms = mid .forms; correction = correction }) new
+    → HalfDone n c lost other others budget limit (record { marks = marks; forms = forms; correction = correction }) new r
+half-done n c lost other others budget limit marks forms correction mid new e r v told f =
+    record {
+      lengths = record {
+        marks = f .marks .long ∙ v .kept .marks-long;
+        forms = f .forms .long ∙ v .kept .forms-long;
+        correction = f .correction .long;
+      };
+      shows = λ own good.
+          let end = decoded (halfIn n c lost other others) budget limit in
+          let w = v .ends own good in (
+            told ∙ ended-report n (record { marks = marks; forms = forms }) mid correction new e end w f,
+            ended-shows n (record { marks = marks; forms = forms }) mid correction new e end w f marks forms refl,
+          );
+    }
+
+----------------------------------------------------------------------
+-- Sizes and lengths that fit
+
+module _ (n lost lit first count other others budget work marks forms correction : ℕ) where
+  -- What the test says, in the order of its parts.
+  pub fits-out : fits? n lost lit first count other others budget work marks forms correction ≡ true
+      → ((n ≤ 1024) × (count ≤ 512) × (others ≤ 512) × (first ≤ 512) × (other ≤ 512) × (8192 ≤ work) × (budget ≤ 63))
+      × ((n ≤ lost) × (first + count ≤ lit) × (n ≤ marks) × (n ≤ forms) × (n ≤ correction))
+  unfolding fits?
+  fits-out t =
+      let a = and-out _ (leb n correction) t in
+      let b = and-out _ (leb n forms) (a .0) in
+      let c = and-out _ (leb n marks) (b .0) in
+      let d = and-out _ (leb (first + count) lit) (c .0) in
+      let e = and-out _ (leb n lost) (d .0) in
+      let f = and-out _ (leb 8192 work) (e .0) in
+      let g = and-out _ (leb budget 63) (f .0) in
+      let h = and-out _ (leb other 512) (g .0) in
+      let i = and-out _ (leb first 512) (h .0) in
+      let j = and-out _ (leb others 512) (i .0) in
+      let k = and-out (leb n 1024) (leb count 512) (j .0) in (
+        (leb-true n 1024 (k .0), leb-true count 512 (k .1), leb-true others 512 (j .1), leb-true first 512 (i .1), leb-true other 512 (h .1), leb-true 8192 work (f .1), leb-true budget 63 (g .1)),
+        (leb-true n lost (e .1), leb-true (first + count) lit (d .1), leb-true n marks (c .1), leb-true n forms (b .1), leb-true n correction (a .1)),
+      )
+
+pub fitting-is : (g : Given) (work : ℕ) (l : HalfLists) → fitting g work l
+    ≡ fits? (g .n) (length (g .lost)) (length (g .lit)) (g .first) (g .count) (g .other) (g .others) (g .budget) work (length (l .marks)) (length (l .forms)) (length (l .correction))
+unfolding fitting fits?
+fitting-is g work l = refl
+
+----------------------------------------------------------------------
+-- The promise
+
+module _ (g : Given) (work : List ℕ) (old : HalfLists) (told : Bool)
+    (tells : told ≡ fits? (g .n) (length (g .lost)) (length (g .lit)) (g .first) (g .count) (g .other) (g .others) (g .budget) (length work) (length (old .marks)) (length (old .forms)) (length (old .correction))) where
+  pub decodes-refused : told ≡ false → Decodes g work work old old Refused
+  decodes-refused e =
+      record {
+        lengths = record { marks = refl; forms = refl; correction = refl };
+        work-long = refl;
+        refused = λ i. (refl, refl, refl);
+        decoded = λ i. never i (fitting-is g (length work) old ∙ sym tells ∙ e);
+      }
+
+  pub decodes-done : told ≡ true → (work′ : List ℕ) (new : HalfLists) (r : HalfReport) → length work′ ≡ length work
+      → HalfDone (g .n) (record { flat = g .flat; ends = g .ends; lit = g .lit; first = g .first; count = g .count }) (g .lost) (g .other) (g .others) (g .budget) (g .limit) old new r
+      → Decodes g work work′ old new (Decoded r)
+  decodes-done e work′ new r long v =
+      record {
+        lengths = v .lengths;
+        work-long = long;
+        refused = λ i. never (fitting-is g (length work) old ∙ sym tells ∙ e) i;
+        decoded = λ i own good. let z = v .shows own good in (ap Decoded (z .0), z .1);
+      }

@@ -1,0 +1,49 @@
+// Lists written from their start.
+ghost use mathlib.Core.Path.{_≡_};
+ghost use Prim.Native.Nat.{ℕ, _%_, _≤_};
+ghost use lib.ListN.{length, getD};
+ghost use Rattle.halves.specs.Scans.{Filled};
+
+// The first n words to 0.
+pub fn clear_words(n: usize, list: &mut [u64])
+    requires { do ⌜ n ≤ (← ⟦list.len()⟧) ⌝ }
+    ensures { λ _. ⌜ Filled (λ _. 0) n (now (list .entry)) (now (list .exit)) ⌝ }
+{
+    let mut q: usize = 0;
+    while q < n {
+        list[q] = 0;
+        q += 1;
+    }
+}
+
+// The first n bytes to 0.
+pub fn clear_bytes(n: usize, list: &mut [u8])
+    requires { do ⌜ n ≤ (← ⟦list.len()⟧) ⌝ }
+    ensures { λ _. ⌜ Filled (λ _. 0) n (now (list .entry)) (now (list .exit)) ⌝ }
+{
+    let mut q: usize = 0;
+    while q < n {
+        list[q] = 0;
+        q += 1;
+    }
+}
+
+// A qubit's flip with all live guesses 0: the constant of its form.
+fn constant_of(form: u64) -> u8
+    ensures { λ r. ⌜ r ≡ form % 2 ⌝ }
+{
+    (form % 2) as u8
+}
+
+// The correction of the first n qubits.
+pub fn write_flips(n: usize, forms: &[u64], correction: &mut [u8])
+    requires { do ⌜ n ≤ (← ⟦forms.len()⟧) ⌝ }
+    requires { do ⌜ n ≤ (← ⟦correction.len()⟧) ⌝ }
+    ensures { λ _. ⌜ Filled (λ q. getD (now (forms .entry)) q 0 % 2) n (now (correction .entry)) (now (correction .exit)) ⌝ }
+{
+    let mut q: usize = 0;
+    while q < n {
+        correction[q] = constant_of(forms[q]);
+        q += 1;
+    }
+}
