@@ -4,3 +4,7 @@ pub mod Table
 pub mod Promise
 pub mod Claim
 pub mod Steps
+pub mod Loading
+pub mod ShotStep
+pub mod DecodeStep
+pub mod Shapes

@@ -1,4 +1,19 @@
 // The stream of records: one call for each record, from a fresh start.
+mod bytes;
+mod decode;
+mod load;
+mod records;
+mod shot;
+mod states;
+
+ghost use mathlib.Core.Path.{_≡_};
+ghost use lib.ListN.{length};
+ghost use Rattle.stream.specs.Promise.{shortLists, Promise};
+ghost use Rattle.stream.specs.Loading.{held};
+ghost use Rattle.stream.specs.DecodeStep.{sixOf, lentOf};
+ghost use Rattle.stream.specs.Claim.{Fresh};
+use code::Qubit;
+use code::Row;
 use halves::HalfReport;
 
 // Why a record is refused (document 01, the table).
@@ -60,4 +75,93 @@ pub struct State {
 pub struct Reply {
     pub state: State,
     pub answer: Answer,
+}
+
+// What a record's bytes are: of no kind, not of its length, or of a kind; rows with whether they are X rows and their number of qubits.
+enum Shape {
+    Unknown,
+    Wrong,
+    Size,
+    Row(bool, u8),
+    Lose,
+    Light(bool),
+    Decode,
+}
+
+// At a fresh start there is no code and no shot.
+pub fn fresh() -> State
+    ensures { λ r. ⌜ Fresh r ⌝ }
+{
+    State {
+        phase: Phase::Empty,
+        sizes: Sizes { n: 0, x: 0, z: 0 },
+        rows: 0,
+        clash: false,
+        spoiled: false,
+        stale: false,
+    }
+}
+
+// Whether a list of code, shot or work is below its least length.
+fn short_lists(flat: &[u16], ends: &[u16], lost: &[u8], lit: &[u8], work: &[u64]) -> bool
+    ensures { λ r. ⌜ r ≡ shortLists (held (now (flat .entry)) (now (ends .entry)) (now (lost .entry)) (now (lit .entry))) (length (now (work .entry))) ⌝ }
+{
+    (flat.len() < 16384)
+        | (ends.len() < 1024)
+        | (lost.len() < 1024)
+        | (lit.len() < 1024)
+        | (work.len() < 8192)
+}
+
+// One record: the state and the lists of code and shot go in as the last call left them, with the six lists of a decode and a work list.
+pub fn step(
+    st: State,
+    flat: &mut [u16],
+    ends: &mut [u16],
+    lost: &mut [u8],
+    lit: &mut [u8],
+    work: &mut [u64],
+    x_marks: &mut [u8],
+    x_forms: &mut [u64],
+    x_correction: &mut [u8],
+    z_marks: &mut [u8],
+    z_forms: &mut [u64],
+    z_correction: &mut [u8],
+    bytes: &[u8],
+) -> Reply
+    ensures { λ r. ⌜ Promise st (now (bytes .entry)) (lentOf (held (now (flat .entry)) (now (ends .entry)) (now (lost .entry)) (now (lit .entry))) (now (work .entry)) (sixOf (now («x_marks» .entry)) (now («x_forms» .entry)) (now («x_correction» .entry)) (now («z_marks» .entry)) (now («z_forms» .entry)) (now («z_correction» .entry)))) (lentOf (held (now (flat .exit)) (now (ends .exit)) (now (lost .exit)) (now (lit .exit))) (now (work .exit)) (sixOf (now («x_marks» .exit)) (now («x_forms» .exit)) (now («x_correction» .exit)) (now («z_marks» .exit)) (now («z_forms» .exit)) (now («z_correction» .exit)))) r ⌝ }
+{
+    let short = short_lists(flat, ends, lost, lit, work);
+    let shape = records::shape_of(bytes);
+    match shape {
+        Shape::Unknown => shot::refused(states::spoiled(st), Refusal::Unknown),
+        Shape::Wrong => shot::refused(states::spoiled(st), Refusal::Length),
+        Shape::Size => load::take_sizes(
+            st,
+            bytes::number(bytes, 1),
+            bytes::number(bytes, 3),
+            bytes::number(bytes, 5),
+            short,
+        ),
+        Shape::Row(x, w) => load::read_row(st, x, flat, ends, bytes, w as usize, short),
+        Shape::Lose => shot::lose(st, Qubit(bytes::number(bytes, 1)), lost, lit, short),
+        Shape::Light(x) => shot::light(st, x, Row(bytes::number(bytes, 1)), lost, lit, short),
+        Shape::Decode => decode::decode(
+            st,
+            bytes[1],
+            bytes::number(bytes, 2),
+            flat,
+            ends,
+            lost,
+            lit,
+            work,
+            x_marks,
+            x_forms,
+            x_correction,
+            z_marks,
+            z_forms,
+            z_correction,
+            short,
+        ),
+    }
 }

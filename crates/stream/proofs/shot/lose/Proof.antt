@@ -1,0 +1,91 @@
+-- `stream::shot::lose` meets its contract: each way is a line of the table. Assumes nothing.
+use native.Mathlib.Omega.{arith}
+use Rattle.stream.proofs.Adding.{losing, add-codeless, add-range, add-short, add-twice, lose-taken}
+use borrow.Author.Needs.{needs}
+use Rattle.stream.proofs.shot.lose.Statement.{statement}
+use Rattle.stream.proofs.shot.lose.Tie as tie
+
+codeless-requires : tie.Need-codeless-requires
+codeless-requires c κs = search needs
+
+refused-requires : tie.Need-refused-requires
+refused-requires c κs = search needs
+
+returns : tie.Need-returns
+returns c = add-codeless _ _ _ _ _ (losing _) _ _ _ _ _ (cc) (search needs)
+
+spoiled-requires : tie.Need-spoiled-requires
+spoiled-requires c κs = search needs
+
+refused-requires-2 : tie.Need-refused-requires-2
+refused-requires-2 c κs = search needs
+
+returns-2 : tie.Need-returns-2
+returns-2 c = add-range _ _ _ _ _ (losing _) _ _ _ _ _ (cc) (omega arith) (cc)
+
+refused-requires-3 : tie.Need-refused-requires-3
+refused-requires-3 c κs = search needs
+
+returns-3 : tie.Need-returns-3
+returns-3 c = add-short _ _ _ _ _ (losing _) _ _ _ _ _ (cc) (omega arith) (search needs) (search needs)
+
+cast-at : tie.Need-cast-at
+cast-at c = search needs
+
+marked-requires : tie.Need-marked-requires
+marked-requires c κs = search needs
+
+spoiled-requires-2 : tie.Need-spoiled-requires-2
+spoiled-requires-2 c κs = search needs
+
+refused-requires-4 : tie.Need-refused-requires-4
+refused-requires-4 c κs = search needs
+
+same-length : tie.Need-same-length
+same-length c = search needs
+
+returns-4 : tie.Need-returns-4
+returns-4 c = add-twice _ _ _ _ _ (losing _) _ _ _ _ _ (cc) (omega arith) (search needs) (cc) (cc)
+
+begin-requires : tie.Need-begin-requires
+begin-requires c κs = search needs
+
+mark-requires : tie.Need-mark-requires
+mark-requires c κs = search needs
+
+taken-requires : tie.Need-taken-requires
+taken-requires c κs = search needs
+
+same-length-2 : tie.Need-same-length-2
+same-length-2 c = search needs
+
+same-length-3 : tie.Need-same-length-3
+same-length-3 c = search needs
+
+returns-5 : tie.Need-returns-5
+returns-5 c = lose-taken _ _ _ _ _ (c .before .before .before .before .before .before .before .before .before .begin .ensures) _ _ (cc) (search needs) (search needs) _ _ (omega arith) (cc) (search needs)
+
+pub lose-spec : {M : Type 1} → statement M
+lose-spec =
+    tie.close
+    (tie.spec
+    codeless-requires
+    refused-requires
+    returns
+    spoiled-requires
+    refused-requires-2
+    returns-2
+    refused-requires-3
+    returns-3
+    cast-at
+    marked-requires
+    spoiled-requires-2
+    refused-requires-4
+    same-length
+    returns-4
+    begin-requires
+    mark-requires
+    taken-requires
+    same-length-2
+    same-length-3
+    returns-5)

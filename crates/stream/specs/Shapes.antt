@@ -1,0 +1,62 @@
+-- What a record's bytes are, as the code tells it.
+--   kindAs      the kind that an answer means
+--   bodyIn      the length of a record of a kind, its kind byte counted
+--   widthIn     how many qubits a row has
+--   unknown?    whether no kind was named
+--   RecordAs    the bytes are this record, of this length
+use mathlib.Core.Path.{_≡_}
+use mathlib.Core.Bool.{Bool, true, false}
+use mathlib.Core.Option.{Option, none, some}
+use mathlib.Core.List.{List}
+use Prim.Native.Nat.{ℕ, _+_, _*_, _≤_}
+use lib.ListN.{length, getD}
+use Rattle.stream.specs.declared.Shape.{Shape}
+use Rattle.stream.specs.declared.Shape.the-variants.{Unknown, Wrong, Size, Lose, Light, Decode}
+use Rattle.stream.specs.Records.{Kind, sizes, lost, decode, lit, rowOf, unknown, wrong, size, row, lose, light, report, number, numbers, recordOf}
+use Rattle.stream.specs.Loading.{pauli}
+
+abbrev pub kindAs : Shape → Option Kind
+kindAs Unknown = none
+kindAs Wrong = none
+kindAs Size = some sizes
+kindAs (Shape.Row x w) = some (rowOf (pauli x) w)
+kindAs Lose = some lost
+kindAs (Light x) = some (lit (pauli x))
+kindAs Decode = some decode
+
+abbrev pub bodyIn : Shape → ℕ
+bodyIn Unknown = 0
+bodyIn Wrong = 0
+bodyIn Size = 7
+bodyIn (Shape.Row x w) = 1 + 2 * w
+bodyIn Lose = 3
+bodyIn (Light x) = 3
+bodyIn Decode = 4
+
+-- How many qubits a row has.
+abbrev pub widthIn : Shape → ℕ
+widthIn Unknown = 0
+widthIn Wrong = 0
+widthIn Size = 0
+widthIn (Shape.Row x w) = w
+widthIn Lose = 0
+widthIn (Light x) = 0
+widthIn Decode = 0
+
+abbrev pub unknown? : Shape → Bool
+unknown? Unknown = true
+unknown? Wrong = true
+unknown? Size = false
+unknown? (Shape.Row x w) = false
+unknown? Lose = false
+unknown? (Light x) = false
+unknown? Decode = false
+
+unfoldable pub RecordAs : List ℕ → Shape → Type 0
+RecordAs bytes Unknown = recordOf bytes ≡ unknown
+RecordAs bytes Wrong = recordOf bytes ≡ wrong
+RecordAs bytes Size = (recordOf bytes ≡ size (number bytes 1) (number bytes 3) (number bytes 5)) × (length bytes ≡ 7)
+RecordAs bytes (Shape.Row x w) = (recordOf bytes ≡ row (pauli x) (numbers bytes 1 w)) × (length bytes ≡ 1 + 2 * w) × (w ≤ 16)
+RecordAs bytes Lose = (recordOf bytes ≡ lose (number bytes 1)) × (length bytes ≡ 3)
+RecordAs bytes (Light x) = (recordOf bytes ≡ light (pauli x) (number bytes 1)) × (length bytes ≡ 3)
+RecordAs bytes Decode = (recordOf bytes ≡ report (getD bytes 1 0) (number bytes 2)) × (length bytes ≡ 4)

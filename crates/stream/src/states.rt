@@ -1,0 +1,52 @@
+// States that an answer leaves.
+use crate::Phase;
+use crate::State;
+ghost use mathlib.Core.Path.{_≡_};
+ghost use mathlib.Core.Bool.{true, false};
+
+// No code and no shot.
+pub fn dropped(st: State) -> State
+    ensures { λ r. ⌜ r ≡ record { phase = Phase.Empty; sizes = st .sizes; rows = st .rows; clash = st .clash; spoiled = st .spoiled; stale = st .stale } ⌝ }
+{
+    let sizes = st.sizes;
+    State {
+        phase: Phase::Empty,
+        sizes: sizes,
+        rows: st.rows,
+        clash: st.clash,
+        spoiled: st.spoiled,
+        stale: st.stale,
+    }
+}
+
+// The code kept, an open shot spoiled.
+pub fn spoiled(st: State) -> State
+    ensures { λ r. ⌜ r ≡ record { phase = st .phase; sizes = st .sizes; rows = st .rows; clash = st .clash; spoiled = true; stale = st .stale } ⌝ }
+{
+    let phase = st.phase;
+    let sizes = st.sizes;
+    State {
+        phase: phase,
+        sizes: sizes,
+        rows: st.rows,
+        clash: st.clash,
+        spoiled: true,
+        stale: st.stale,
+    }
+}
+
+// The code kept, the shot ended: the next is empty.
+pub fn ended(st: State) -> State
+    ensures { λ r. ⌜ r ≡ record { phase = st .phase; sizes = st .sizes; rows = st .rows; clash = st .clash; spoiled = false; stale = true } ⌝ }
+{
+    let phase = st.phase;
+    let sizes = st.sizes;
+    State {
+        phase: phase,
+        sizes: sizes,
+        rows: st.rows,
+        clash: st.clash,
+        spoiled: false,
+        stale: true,
+    }
+}
