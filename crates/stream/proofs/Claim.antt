@@ -29,7 +29,7 @@ use Rattle.stream.specs.declared.Answer.the-variants.{Refused, Taken, Co
 use Rattle.stream.specs.Records.{Pauli, X, Z, Record, report, recordOf}
 use Rattle.stream.specs.History.{Code, rowsOf, Shot, History, empty, loading, ready, half}
 use Rattle.stream.specs.Table.{afterwards}
-use Rattle.stream.specs.Promise.{Lists, Six, Lent, GoodRows, HeldShot, NoShot, ShotIn, Holds, Represents, shortLists, refusalAt, answerOf, Left, Written, KeptLengths, Carried, Promise}
+use Rattle.stream.specs.Promise.{Lists, Six, Lent, GoodRows, HeldShot, NoShot, ShotIn, Holds, Represents, shortLists, refusalAt, answerOf, Left, Written, Unworked, KeptLengths, Carried, Promise}
 use Rattle.stream.specs.Claim.{Call, lent, Run, ended, call, Fresh, past, Told, reportFor, listsFor, shows, Reported, HalfRight, SameHalf, Place, at, begins, Claim}
 
 ----------------------------------------------------------------------
@@ -90,6 +90,7 @@ told k p =
       answer = subst (λ (r : Option Refusal). k .reply .answer ≡ answerOf r (recordOf (k .bytes)) (at p)) e (c .answer);
       lists = subst (λ (r : Option Refusal). Left r (recordOf (k .bytes)) (at p) (begins (p .lists) (p .before)) (k .left .lists)) e (c .lists);
       six = subst (λ (r : Option Refusal). Written r (recordOf (k .bytes)) (at p) (k .six) (k .left .six)) e (c .six);
+      work = subst (λ (r : Option Refusal). Unworked r (recordOf (k .bytes)) (k .work) (k .left .work)) e (c .work);
     }
 
 ----------------------------------------------------------------------
@@ -175,15 +176,15 @@ unfolding BudgetsLaw
 same-half h good budget limit budget′ limit′ i j = budgets h good budget budget′ limit limit′ i j
 
 pub claim : Claim
-unfolding Claim
-claim = (
-  told,
-  λ k p c s budget limit r v b.
-      let z = shown-as k p c s budget limit r v in
-      subst (HalfRight (half b c s) budget limit) (sym (z .same b)) (half-right (half b c s) (z .obeyed b) budget limit),
-  λ k k′ p p′ c s budget limit budget′ limit′ r r′ v v′ i j b.
-      let z = shown-as k p c s budget limit r v in
-      let z′ = shown-as k′ p′ c s budget′ limit′ r′ v′ in
-      subst (λ (x : Shown). SameHalf x (shows b c r′ k′)) (sym (z .same b))
-      (subst (SameHalf (outcome (half b c s) budget limit)) (sym (z′ .same b)) (same-half (half b c s) (z .obeyed b) budget limit budget′ limit′ i j)),
-)
+claim =
+    record {
+      told = told;
+      right = λ k p c s budget limit r v b.
+          let z = shown-as k p c s budget limit r v in
+          subst (HalfRight (half b c s) budget limit) (sym (z .same b)) (half-right (half b c s) (z .obeyed b) budget limit);
+      same = λ k k′ p p′ c s budget limit budget′ limit′ r r′ v v′ i j b.
+          let z = shown-as k p c s budget limit r v in
+          let z′ = shown-as k′ p′ c s budget′ limit′ r′ v′ in
+          subst (λ (x : Shown). SameHalf x (shows b c r′ k′)) (sym (z .same b))
+          (subst (SameHalf (outcome (half b c s) budget limit)) (sym (z′ .same b)) (same-half (half b c s) (z .obeyed b) budget limit budget′ limit′ i j));
+    }

@@ -27,7 +27,7 @@ use Rattle.stream.specs.declared.Reply.{Reply}
 use Rattle.stream.specs.Records.{Pauli, X, Z, Record, report, recordOf}
 use Rattle.stream.specs.History.{Code, Shot, History, empty, ready, half}
 use Rattle.stream.specs.Table.{afterwards}
-use Rattle.stream.specs.Promise.{Lists, Six, Lent, refusalAt, answerOf, Left, Written, Promise}
+use Rattle.stream.specs.Promise.{Lists, Six, Lent, refusalAt, answerOf, Left, Written, Unworked, Promise}
 
 ----------------------------------------------------------------------
 -- Runs
@@ -66,6 +66,7 @@ pub record Told (a : History) (l l′ : Lists) (k : Call) : Type 0 where
   pub answer : k .reply .answer ≡ answerOf (refusalAt (k .bytes) a (lent l k)) (recordOf (k .bytes)) a
   pub lists : Left (refusalAt (k .bytes) a (lent l k)) (recordOf (k .bytes)) a l′ (k .left .lists)
   pub six : Written (refusalAt (k .bytes) a (lent l k)) (recordOf (k .bytes)) a (k .six) (k .left .six)
+  pub work : Unworked (refusalAt (k .bytes) a (lent l k)) (recordOf (k .bytes)) (k .work) (k .left .work)
 
 abbrev pub reportFor : Pauli → Report → HalfReport
 reportFor X r = r .x
@@ -116,11 +117,16 @@ abbrev pub begins : Lists → List Call → Lists
 begins l [] = l
 begins l (k ∷ ks) = begins (k .left .lists) ks
 
-unfoldable pub Claim : Type 0
-Claim =
-    ((k : Call) (p : Place k) → Told (at p) (p .lists) (begins (p .lists) (p .before)) k)
-    × ((k : Call) (p : Place k) (c : Code) (s : Shot) (budget limit : ℕ) (r : Report) → Reported (at p) k c s budget limit r
-    → (b : Pauli) → HalfRight (half b c s) budget limit (shows b c r k))
-    × ((k k′ : Call) (p : Place k) (p′ : Place k′) (c : Code) (s : Shot) (budget limit budget′ limit′ : ℕ) (r r′ : Report)
-    → Reported (at p) k c s budget limit r → Reported (at p′) k′ c s budget′ limit′ r′ → budget ≤ budget′ → limit ≤ limit′
-    → (b : Pauli) → SameHalf (shows b c r k) (shows b c r′ k′))
+-- For every list of records from a fresh start, refused ones included.
+pub record Claim : Type 0 where
+  -- Every record that obeys document 01 and meets lists long enough is carried out. Every other record is refused with the first number that
+  -- fits, the lent lists untouched, the code and shot left as the table says.
+  pub told : (k : Call) (p : Place k) → Told (at p) (p .lists) (begins (p .lists) (p .before)) k
+  -- Each half that a decode reports is right: its verdict, its fillings and its classes.
+  pub right : (k : Call) (p : Place k) (c : Code) (s : Shot) (budget limit : ℕ) (r : Report) → Reported (at p) k c s budget limit r
+      → (b : Pauli) → HalfRight (half b c s) budget limit (shows b c r k)
+  -- Take any two reported decodes in such lists with the same code and the same shot, the second with a guess budget and a turn limit no
+  -- smaller. Where a half of the first is finished or none, the same half of the second has the same word, counts, marks, forms and correction.
+  pub same : (k k′ : Call) (p : Place k) (p′ : Place k′) (c : Code) (s : Shot) (budget limit budget′ limit′ : ℕ) (r r′ : Report)
+      → Reported (at p) k c s budget limit r → Reported (at p′) k′ c s budget′ limit′ r′ → budget ≤ budget′ → limit ≤ limit′
+      → (b : Pauli) → SameHalf (shows b c r k) (shows b c r′ k′)
