@@ -3,20 +3,13 @@ use mathlib.Core.Path.{_≡_, sym, ap, _∙_}
 use mathlib.Core.Bool.{false}
 use native.Mathlib.Omega.{arith}
 use Rattle.stream.specs.declared.State.{State}
-use Rattle.stream.specs.declared.Refusal.the-variants.{Short}
+use Rattle.stream.specs.declared.Refusal.the-variants.{Spoiled, Short}
 use Rattle.stream.specs.ShotStep.{withoutCode}
 use Rattle.stream.proofs.Answers.{saying}
 use Rattle.stream.proofs.Decoding.{decode-codeless, decode-budget, decode-spoiled, decode-short, decode-short-x, decode-short-z, decode-done}
 use borrow.Author.Needs.{needs}
 use Rattle.stream.proofs.decode.decode.Statement.{statement}
 use Rattle.stream.proofs.decode.decode.Tie as tie
-
--- Past the tests of code, budget, shot and lists.
-abbrev tested : tie.After-short-half2 → tie.Else4
-tested h = h .before .before .before .before .before .before .before .before .before .before .before
-
-coded : (t : tie.Else4) → withoutCode (t .before .before .before .before .before .before .before .before .before .before .before .before .before .before .before .before .before .args .st .phase) ≡ false
-coded t = sym (t .before .before .before .before .before .codeless .ensures) ∙ t .before .before .before .before .if1 .left
 
 codeless-requires : tie.Need-codeless-requires
 codeless-requires c κs = search needs
@@ -25,7 +18,7 @@ refused-requires : tie.Need-refused-requires
 refused-requires c κs = search needs
 
 returns : tie.Need-returns
-returns c = decode-codeless _ _ _ _ _ _ (cc) (search needs)
+returns c = decode-codeless _ _ _ _ _ _ (sym (c .before .before .codeless .ensures) ∙ c .before .if1 .taken) (c .refused .ensures)
 
 ended-requires : tie.Need-ended-requires
 ended-requires c κs = search needs
@@ -39,14 +32,20 @@ returns-2 c = decode-budget _ _ _ _ _ _ (cc) (omega arith) (cc)
 refused-requires-3 : tie.Need-refused-requires-3
 refused-requires-3 c κs = search needs
 
+-- There is a complete code.
+coded : (t : tie.Else1) → withoutCode (t .before .before .before .before .before .before .before .before .before .before .before .before .before .args .st .phase) ≡ false
+coded t = sym (t .before .codeless .ensures) ∙ t .if1 .left
+
 returns-3 : tie.Need-returns-3
-returns-3 c = decode-spoiled _ _ _ _ _ _ (cc) (omega arith) (search needs) (cc)
+returns-3 c =
+    decode-spoiled _ _ _ _ _ _ (coded (c .before .before .before .before)) (c .before .before .if2 .left) (c .before .if3 .taken) (c .refused3 .ensures ∙ ap (saying Spoiled) (c .before .before .before .ended .ensures))
 
 refused-requires-4 : tie.Need-refused-requires-4
 refused-requires-4 c κs = search needs
 
 returns-4 : tie.Need-returns-4
-returns-4 c = decode-short _ _ _ _ _ _ (cc) (omega arith) (search needs) (search needs) (cc)
+returns-4 c =
+    decode-short _ _ _ _ _ _ (coded (c .before .before .before .before .before)) (c .before .before .before .if2 .left) (c .before .before .if3 .left) (c .before .if4 .taken) (c .refused4 .ensures ∙ ap (saying Short) (c .before .before .before .before .ended .ensures))
 
 cast-n : tie.Need-cast-n
 cast-n c = search needs
@@ -67,7 +66,9 @@ same-length-3 : tie.Need-same-length-3
 same-length-3 c = search needs
 
 returns-5 : tie.Need-returns-5
-returns-5 c = decode-short-x _ _ _ _ _ _ (cc) (omega arith) (search needs) (cc) (cc)
+returns-5 c =
+    let t = c .before .before .before .before .before .before .before .before in
+    decode-short-x _ _ _ _ _ _ (coded (t .before .before .before .before)) (t .before .before .if2 .left) (t .before .if3 .left) (sym (c .before .before .short-half .ensures) ∙ c .before .if5 .taken) (c .refused5 .ensures ∙ ap (saying Short) (t .before .before .before .ended .ensures))
 
 short-half-requires-2 : tie.Need-short-half-requires-2
 short-half-requires-2 c κs = search needs
@@ -95,9 +96,8 @@ same-length-9 c = search needs
 
 returns-6 : tie.Need-returns-6
 returns-6 c =
-    let t = tested (c .before .before) in
-    decode-short-z _ _ _ _ _ _ (coded t) (t .before .before .if2 .left) (t .before .if3 .left)
-    (sym (c .before .before .short-half2 .ensures) ∙ c .before .if6 .taken) (c .refused6 .ensures ∙ ap (saying Short) (t .before .before .before .ended .ensures))
+    let t = c .before .before .before .before .before .before .before .before .before .before .before .before .before in
+    decode-short-z _ _ _ _ _ _ (coded (t .before .before .before .before)) (t .before .before .if2 .left) (t .before .if3 .left) (sym (c .before .before .short-half2 .ensures) ∙ c .before .if6 .taken) (c .refused6 .ensures ∙ ap (saying Short) (t .before .before .before .ended .ensures))
 
 begin-requires : tie.Need-begin-requires
 begin-requires c κs = search needs
@@ -135,11 +135,11 @@ same-length-18 c = search needs
 returns-7 : tie.Need-returns-7
 returns-7 c =
     let h = c .before .before .before .before .before .before .before .before .before .before .before .before .before .before .before .before .before .before .before .before .before .before .before .before .before .before .before .before .before .before .before in
-    let t = tested (h .before) in
+    let t = h .before .before .before .before .before .before .before .before .before .before .before .before in
     decode-done _ _ _ _ _ _ _ _ _ _ _ _ _ _ _ (c .before .before .before .before .before .before .before .before .before .before .before .before .before .before .before .before .before .before .before .before .before .before .before .before .before .before .before .before .begin .ensures) (c .before .before .before .before .before .before .before .before .before .before .before .before .before .before .decode-halves .ensures)
     (t .before .before .if2 .left) (t .before .if3 .left) (t .if4 .left)
     (sym (h .before .before .before .before .before .before .short-half .ensures) ∙ h .before .before .before .before .before .if5 .left) (sym (h .before .short-half2 .ensures) ∙ h .if6 .left)
-    _ (coded t) (ap (λ (o : State). record { state = o; answer = c .before .before .before .before .before .before .before .before .before .before .before .before .before .before .decode-halves .result }) (t .before .before .before .ended .ensures))
+    _ (coded (t .before .before .before .before)) (ap (λ (o : State). record { state = o; answer = c .before .before .before .before .before .before .before .before .before .before .before .before .before .before .decode-halves .result }) (t .before .before .before .ended .ensures))
 
 pub decode-spec : {M : Type 1} → statement M
 decode-spec =

@@ -1,5 +1,10 @@
 -- `stream::shot::lose` meets its contract: each way is a line of the table. Assumes nothing.
+use mathlib.Core.Path.{_≡_, sym, ap, _∙_}
+use mathlib.Core.Bool.{false}
 use native.Mathlib.Omega.{arith}
+use Rattle.stream.specs.declared.Refusal.the-variants.{Range, Twice}
+use Rattle.stream.specs.ShotStep.{withoutCode}
+use Rattle.stream.proofs.Answers.{saying}
 use Rattle.stream.proofs.Adding.{losing, add-codeless, add-range, add-short, add-twice, lose-taken}
 use borrow.Author.Needs.{needs}
 use Rattle.stream.proofs.shot.lose.Statement.{statement}
@@ -12,7 +17,7 @@ refused-requires : tie.Need-refused-requires
 refused-requires c κs = search needs
 
 returns : tie.Need-returns
-returns c = add-codeless _ _ _ _ _ (losing _) _ _ _ _ _ (cc) (search needs)
+returns c = add-codeless _ _ _ _ _ (losing _) _ _ _ _ _ (sym (c .before .before .codeless .ensures) ∙ c .before .if1 .taken) (c .refused .ensures)
 
 spoiled-requires : tie.Need-spoiled-requires
 spoiled-requires c κs = search needs
@@ -20,14 +25,19 @@ spoiled-requires c κs = search needs
 refused-requires-2 : tie.Need-refused-requires-2
 refused-requires-2 c κs = search needs
 
+coded : (t : tie.Else1) → withoutCode (t .before .before .before .before .args .st .phase) ≡ false
+coded t = sym (t .before .codeless .ensures) ∙ t .if1 .left
+
 returns-2 : tie.Need-returns-2
-returns-2 c = add-range _ _ _ _ _ (losing _) _ _ _ _ _ (cc) (omega arith) (cc)
+returns-2 c =
+    add-range _ _ _ _ _ (losing _) _ _ _ _ _ (coded (c .before .before .before .before .before .before)) (omega (arith, c .before .before .if2 .taken))
+    (c .refused2 .ensures ∙ ap (saying Range) (c .before .spoiled .ensures))
 
 refused-requires-3 : tie.Need-refused-requires-3
 refused-requires-3 c κs = search needs
 
 returns-3 : tie.Need-returns-3
-returns-3 c = add-short _ _ _ _ _ (losing _) _ _ _ _ _ (cc) (omega arith) (search needs) (search needs)
+returns-3 c = add-short _ _ _ _ _ (losing _) _ _ _ _ _ (coded (c .before .before .before .before .before .before)) (c .before .before .if2 .left) (c .before .if3 .taken) (c .refused3 .ensures)
 
 cast-at : tie.Need-cast-at
 cast-at c = search needs
@@ -45,7 +55,11 @@ same-length : tie.Need-same-length
 same-length c = search needs
 
 returns-4 : tie.Need-returns-4
-returns-4 c = add-twice _ _ _ _ _ (losing _) _ _ _ _ _ (cc) (omega arith) (search needs) (cc) (cc)
+returns-4 c =
+    let m = c .before .before .before in
+    let t = m .before .before .before .before in
+    add-twice _ _ _ _ _ (losing _) _ _ _ _ _ (coded (t .before .before .before .before)) (t .if2 .left) (m .before .before .before .if3 .left) (sym (m .marked .ensures) ∙ c .before .before .if4 .taken)
+    (c .refused4 .ensures ∙ ap (saying Twice) (c .before .spoiled2 .ensures))
 
 begin-requires : tie.Need-begin-requires
 begin-requires c κs = search needs
@@ -63,7 +77,11 @@ same-length-3 : tie.Need-same-length-3
 same-length-3 c = search needs
 
 returns-5 : tie.Need-returns-5
-returns-5 c = lose-taken _ _ _ _ _ (c .before .before .before .before .before .before .before .before .before .begin .ensures) _ _ (cc) (search needs) (search needs) _ _ (omega arith) (cc) (search needs)
+returns-5 c =
+    let m = c .before .before .before .before .before .before .before .before .before .before .before .before .before in
+    let t = m .before .before .before .before in
+    lose-taken _ _ _ _ _ (c .before .before .before .before .before .before .before .before .before .begin .ensures) _ _ (coded (t .before .before .before .before)) (m .before .before .before .if3 .left) (c .taken .ensures) _ _
+    (t .if2 .left) (sym (m .marked .ensures) ∙ c .before .before .before .before .before .before .before .before .before .before .before .before .if4 .left) (c .before .before .before .mark .ensures)
 
 pub lose-spec : {M : Type 1} → statement M
 lose-spec =
