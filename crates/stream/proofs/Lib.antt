@@ -16,3 +16,4 @@ pub mod Decoding
 pub mod PromisedShots
 pub mod KindBytes
 pub mod Dispatch
+pub mod Tied

@@ -1,0 +1,62 @@
+-- What two records from a fresh start are answered.
+--   Shorts          which lent lists are too short, told from their lengths
+--   afterFirst      the code and shot that the first record makes
+--   answerToSecond  the answer to the second record
+--   Right           both halves of a report are right (demands 2 and 3)
+--   TwoRecords      what the two records say, and nothing else but lists too short, decides the answer; and a report is right
+use mathlib.Core.Path.{_≡_}
+use mathlib.Core.Bool.{Bool}
+use mathlib.Core.Option.{Option}
+use mathlib.Core.List.{List}
+use Prim.Native.Nat.{ℕ}
+use lib.ListN.{length}
+use Rattle.halves.specs.Decode.{seen}
+use Rattle.stream.specs.declared.Report.{Report}
+use Rattle.stream.specs.declared.Refusal.{Refusal}
+use Rattle.stream.specs.declared.Answer.{Answer}
+use Rattle.stream.specs.declared.Answer.the-variants.{Decoded}
+use Rattle.stream.specs.declared.Reply.{Reply}
+use Rattle.stream.specs.Records.{Pauli, Record, report, recordOf}
+use Rattle.stream.specs.History.{Code, Shot, History, empty, ready, half}
+use Rattle.stream.specs.Table.{refusal, afterwards}
+use Rattle.stream.specs.Promise.{Six, Lent, shortLists, shortSix, answerOf}
+use Rattle.stream.specs.Claim.{reportFor, listsFor, HalfRight}
+
+-- A list of code, shot or work; one of the six lists of a decode of n qubits.
+pub record Shorts : Type 0 where
+  pub lists : Bool
+  pub six : ℕ → Bool
+
+abbrev pub shortsOf : Lent → Shorts
+shortsOf l = record { lists = shortLists (l .lists) (length (l .work)); six = shortSix (l .six) }
+
+-- The refusal that a record meets at this code and shot.
+abbrev pub refusalOf : Shorts → List ℕ → History → Option Refusal
+refusalOf s bytes a = refusal (s .lists) (s .six) (recordOf bytes) a
+
+abbrev pub afterFirst : Shorts → List ℕ → History
+afterFirst s first = afterwards (refusalOf s first empty) (recordOf first) empty
+
+abbrev pub answerToSecond : Shorts → List ℕ → List ℕ → Answer
+answerToSecond s first second =
+    let a = afterFirst s first in answerOf (refusalOf s second a) (recordOf second) a
+
+-- A decode: of the code and shot that there are, with the budget and turn limit that the record asks for.
+pub record Decode (a : History) (r : Record) : Type 0 where
+  pub code : Code
+  pub shot : Shot
+  pub budget : ℕ
+  pub limit : ℕ
+  pub held : a ≡ ready code shot
+  pub asked : r ≡ report budget limit
+
+-- Each half that the decode shows, by its report and the six lists at exit.
+abbrev pub Right : {a : History} {r : Record} → Decode a r → Report → Six → Type 0
+Right k d six =
+    (p : Pauli) → HalfRight (half p (k .code) (k .shot)) (k .budget) (k .limit) (seen (k .code .n) (reportFor p d) (listsFor p six))
+
+-- Of the lists at entry and at exit.
+pub record TwoRecords (first second : List ℕ) (old new : Lent) (r : Reply) : Type 0 where
+  pub answer : r .answer ≡ answerToSecond (shortsOf old) first second
+  pub right : (d : Report) → r .answer ≡ Decoded d
+      → (k : Decode (afterFirst (shortsOf old) first) (recordOf second)) × Right k d (new .six)
