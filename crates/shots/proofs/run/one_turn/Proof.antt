@@ -1,0 +1,62 @@
+-- `shots::run::one_turn` meets its contract. Assumes nothing.
+use native.Mathlib.Omega.{arith}
+use borrow.Author.Needs.{needs}
+use Rattle.shots.proofs.run.one_turn.Statement.{statement}
+use Rattle.shots.proofs.run.one_turn.Tie as tie
+
+refill-requires : tie.Need-refill-requires
+refill-requires c κs = search needs
+
+sub-one-block : tie.Need-sub-one-block
+sub-one-block c = search needs
+
+part-one-block-start : tie.Need-part-one-block-start
+part-one-block-start c = search needs
+
+part-one-block-end : tie.Need-part-one-block-end
+part-one-block-end c = search needs
+
+one-block-requires : tie.Need-one-block-requires
+one-block-requires c κs = search needs
+
+keep-requires : tie.Need-keep-requires
+keep-requires c κs = (search needs, c .before .before .before .before .before .before .before .before .before .before .before .before .before .before .before .before .before .before .before .before .before .before .before .refill .ensures .1)
+
+same-length : tie.Need-same-length
+same-length c = search needs
+
+same-length-2 : tie.Need-same-length-2
+same-length-2 c = search needs
+
+same-length-3 : tie.Need-same-length-3
+same-length-3 c = search needs
+
+same-length-4 : tie.Need-same-length-4
+same-length-4 c = search needs
+
+same-length-5 : tie.Need-same-length-5
+same-length-5 c = omega (arith, c .before .before .before .keep .kept .0, c .before .before .before .before .before .before .before .before .before .before .before .before .before .before .before .before .before .before .before .before .before .before .before .before .before .before .before .refill .kept .0)
+
+same-length-6 : tie.Need-same-length-6
+same-length-6 c = search needs
+
+returns : tie.Need-returns
+returns c = search needs
+
+pub one-turn-spec : {M : Type 1} → statement M
+one-turn-spec =
+    tie.close
+    (tie.spec
+    refill-requires
+    sub-one-block
+    part-one-block-start
+    part-one-block-end
+    one-block-requires
+    keep-requires
+    same-length
+    same-length-2
+    same-length-3
+    same-length-4
+    same-length-5
+    same-length-6
+    returns)
