@@ -134,8 +134,8 @@ pub fn step(
     let short = short_lists(flat, ends, lost, lit, work);
     let shape = records::shape_of(bytes);
     match shape {
-        Shape::Unknown => shot::refused(states::spoiled(st), Refusal::Unknown),
-        Shape::Wrong => shot::refused(states::spoiled(st), Refusal::Length),
+        Shape::Unknown => states::refused(states::spoiled(st), Refusal::Unknown),
+        Shape::Wrong => states::refused(states::spoiled(st), Refusal::Length),
         Shape::Size => load::take_sizes(
             st,
             bytes::number(bytes, 1),

@@ -7,6 +7,7 @@ use crate::Sizes;
 use crate::State;
 use crate::bytes::qubits_of;
 use crate::states::dropped;
+use crate::states::refused;
 use code::Row;
 ghost use mathlib.Core.Path.{_≡_};
 ghost use mathlib.Core.Bool.{Bool, true, false, _&&_};
@@ -33,16 +34,6 @@ fn in_range(n: u16, x: u16, z: u16) -> bool
         return false;
     }
     z <= 512
-}
-
-// A refusal, and the state that it leaves.
-fn refused(st: State, why: Refusal) -> Reply
-    ensures { λ r. ⌜ r ≡ record { state = st; answer = Answer.Refused why } ⌝ }
-{
-    Reply {
-        state: st,
-        answer: Answer::Refused(why),
-    }
 }
 
 // With so many rows in: more are awaited, or the code is complete and has an empty shot.

@@ -5,6 +5,7 @@ use crate::Refusal;
 use crate::Reply;
 use crate::Sizes;
 use crate::State;
+use crate::states::refused;
 use crate::states::spoiled;
 use code::Qubit;
 use code::Row;
@@ -75,16 +76,6 @@ pub fn codeless(st: State) -> bool
         Phase::Empty => true,
         Phase::Loading => true,
         Phase::Ready => false,
-    }
-}
-
-// A refusal.
-pub fn refused(st: State, why: Refusal) -> Reply
-    ensures { λ r. ⌜ r ≡ record { state = st; answer = Answer.Refused why } ⌝ }
-{
-    Reply {
-        state: st,
-        answer: Answer::Refused(why),
     }
 }
 

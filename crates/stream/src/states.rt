@@ -1,5 +1,8 @@
-// States that an answer leaves.
+// States that an answer leaves, and the answer that refuses.
+use crate::Answer;
 use crate::Phase;
+use crate::Refusal;
+use crate::Reply;
 use crate::State;
 ghost use mathlib.Core.Path.{_≡_};
 ghost use mathlib.Core.Bool.{true, false};
@@ -48,5 +51,15 @@ pub fn ended(st: State) -> State
         clash: st.clash,
         spoiled: false,
         stale: true,
+    }
+}
+
+// A refusal, and the state that it leaves.
+pub fn refused(st: State, why: Refusal) -> Reply
+    ensures { λ r. ⌜ r ≡ record { state = st; answer = Answer.Refused why } ⌝ }
+{
+    Reply {
+        state: st,
+        answer: Answer::Refused(why),
     }
 }
