@@ -7,7 +7,7 @@ use mathlib.Core.Option.{Option, none, some}
 use Prim.Native.Nat.{ℕ, suc, _+_, _≤_, _<_}
 use lib.ListN.{length}
 use Rattle.stream.specs.Records.{Kind, bodyOf}
-use Rattle.shots.specs.declared.run.Progress.{Progress}
+use Rattle.shots.specs.declared.records.Progress.{Progress}
 
 abbrev pub wholeLength : Option Kind → ℕ
 wholeLength none = 1

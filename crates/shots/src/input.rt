@@ -1,7 +1,7 @@
 // Records in a block of input.
 use libc::STDIN_FILENO;
 ghost use mathlib.Core.Path.{_≡_};
-ghost use Prim.Native.Nat.{_+_, _-_, _≤_, _<_};
+ghost use Prim.Native.Nat.{_+_, _≤_};
 ghost use lib.ListN.{length};
 ghost use Rattle.stream.specs.Records.{kindOf};
 ghost use Rattle.shots.specs.Blocks.{wholeLength};

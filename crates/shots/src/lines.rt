@@ -31,6 +31,7 @@ fn refusal_number(r: Refusal) -> u8
     }
 }
 
+// The word of a half.
 fn put_word(out: &mut [u8], at: usize, word: Word) -> usize
     requires { ⌜ Room at (now out) ⌝ }
     ensures { λ r. ⌜ Room r (now (out .exit)) ⌝ }
@@ -112,6 +113,7 @@ fn put_half(
     put_byte(out, end, b'\n')
 }
 
+// The line of a complete code.
 fn put_code(out: &mut [u8], at: usize, sizes: Sizes) -> usize
     requires { ⌜ Room at (now out) ⌝ }
     ensures { λ r. ⌜ Room r (now (out .exit)) ⌝ }
@@ -123,6 +125,7 @@ fn put_code(out: &mut [u8], at: usize, sizes: Sizes) -> usize
     put_byte(out, end, b'\n')
 }
 
+// The line of a refusal.
 fn put_refusal(out: &mut [u8], at: usize, r: Refusal, kind: u8) -> usize
     requires { ⌜ Room at (now out) ⌝ }
     ensures { λ r. ⌜ Room r (now (out .exit)) ⌝ }

@@ -2,6 +2,7 @@
 mod input;
 mod lines;
 mod output;
+mod records;
 mod run;
 
 // The lists of code and shot at their least lengths, and the blocks in which the program reads and writes.

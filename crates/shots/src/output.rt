@@ -25,6 +25,7 @@ pub fn put_byte(out: &mut [u8], at: usize, byte: u8) -> usize
     1
 }
 
+// Puts a text, byte by byte.
 pub fn put_text(out: &mut [u8], at: usize, text: &[u8]) -> usize
     requires { ⌜ Room at (now out) ⌝ }
     ensures { λ r. ⌜ Room r (now (out .exit)) ⌝ }
@@ -38,7 +39,7 @@ pub fn put_text(out: &mut [u8], at: usize, text: &[u8]) -> usize
     end
 }
 
-// A blank and the number in decimal.
+// Puts a blank and the number in decimal.
 pub fn put_number(out: &mut [u8], at: usize, n: u64) -> usize
     requires { ⌜ Room at (now out) ⌝ }
     ensures { λ r. ⌜ Room r (now (out .exit)) ⌝ }

@@ -1,19 +1,18 @@
--- `shots::run::all_records` meets its contract. Assumes nothing.
-use mathlib.Core.Path.{_≡_}
+-- `shots::records::all_records` meets its contract. Assumes nothing.
+use mathlib.Core.Path.{_≡_, _∙_}
 use Prim.Native.Nat.{_-_}
-use native.Mathlib.Omega.{arith}
 use borrow.Author.Needs.{needs}
 use lib.ListN.{length}
 use Rattle.shots.specs.Blocks.{Within}
-use Rattle.shots.proofs.run.all_records.Statement.{statement}
-use Rattle.shots.proofs.run.all_records.Tie as tie
+use Rattle.shots.proofs.records.all_records.Statement.{statement}
+use Rattle.shots.proofs.records.all_records.Tie as tie
 
 abbrev Inv-loop : tie.InvT-loop
-Inv-loop flat₀ ends₀ lost₀ lit₀ work₀ x-marks₀ x-forms₀ x-correction₀ z-marks₀ z-forms₀ z-correction₀ block ended out₀ p₀ flat ends lost lit work x-marks x-forms x-correction z-marks z-forms z-correction out p =
+Inv-loop p₀ flat₀ ends₀ lost₀ lit₀ work₀ x-marks₀ x-forms₀ x-correction₀ z-marks₀ z-forms₀ z-correction₀ block out₀ p flat ends lost lit work x-marks x-forms x-correction z-marks z-forms z-correction out =
     Within p block out × (length flat ≡ length flat₀) × (length ends ≡ length ends₀) × (length lost ≡ length lost₀) × (length lit ≡ length lit₀) × (length work ≡ length work₀) × (length x-marks ≡ length x-marks₀) × (length x-forms ≡ length x-forms₀) × (length x-correction ≡ length x-correction₀) × (length z-marks ≡ length z-marks₀) × (length z-forms ≡ length z-forms₀) × (length z-correction ≡ length z-correction₀) × (length out ≡ length out₀)
 
 abbrev μ-loop : tie.MeasureT-loop
-μ-loop flat₀ ends₀ lost₀ lit₀ work₀ x-marks₀ x-forms₀ x-correction₀ z-marks₀ z-forms₀ z-correction₀ block ended out₀ p₀ flat ends lost lit work x-marks x-forms x-correction z-marks z-forms z-correction out p =
+μ-loop p₀ flat₀ ends₀ lost₀ lit₀ work₀ x-marks₀ x-forms₀ x-correction₀ z-marks₀ z-forms₀ z-correction₀ block out₀ p flat ends lost lit work x-marks x-forms x-correction z-marks z-forms z-correction out =
     length block - p .taken
 
 abbrev at-call : tie.After-slice-known24 Inv-loop μ-loop → tie.After-one-record Inv-loop μ-loop
@@ -21,9 +20,6 @@ at-call c = c .before .before .before .before .before .before .before .before .b
 
 abbrev at-loop : tie.After-slice-known24 Inv-loop μ-loop → tie.At-loop Inv-loop μ-loop
 at-loop c = at-call c .before .before .before .before .before .before .before .before .before .before .before .before .before .before .before
-
-record-at-requires : tie.Need-record-at-requires Inv-loop μ-loop
-record-at-requires c κs = search needs
 
 loop-holds : tie.Need-loop-holds Inv-loop μ-loop
 loop-holds c = search needs
@@ -35,7 +31,7 @@ loop-less : tie.Need-loop-less Inv-loop μ-loop
 loop-less c = search needs
 
 loop-again : tie.Need-loop-again Inv-loop μ-loop
-loop-again c = (search needs, omega (arith, at-call c .one-record .kept .1 .0, at-loop c .loop .inv .1), omega (arith, at-call c .one-record .kept .1 .1 .0, at-loop c .loop .inv .2), omega (arith, at-call c .one-record .kept .1 .1 .1 .0, at-loop c .loop .inv .3), omega (arith, at-call c .one-record .kept .1 .1 .1 .1 .0, at-loop c .loop .inv .4), omega (arith, at-call c .one-record .kept .1 .1 .1 .1 .1 .0, at-loop c .loop .inv .5), omega (arith, at-call c .one-record .kept .1 .1 .1 .1 .1 .1 .0, at-loop c .loop .inv .6), omega (arith, at-call c .one-record .kept .1 .1 .1 .1 .1 .1 .1 .0, at-loop c .loop .inv .7), omega (arith, at-call c .one-record .kept .1 .1 .1 .1 .1 .1 .1 .1 .0, at-loop c .loop .inv .8), omega (arith, at-call c .one-record .kept .1 .1 .1 .1 .1 .1 .1 .1 .1 .0, at-loop c .loop .inv .9), omega (arith, at-call c .one-record .kept .1 .1 .1 .1 .1 .1 .1 .1 .1 .1 .0, at-loop c .loop .inv .10), omega (arith, at-call c .one-record .kept .1 .1 .1 .1 .1 .1 .1 .1 .1 .1 .1 .0, at-loop c .loop .inv .11), omega (arith, at-call c .one-record .kept .1 .1 .1 .1 .1 .1 .1 .1 .1 .1 .1 .1 .1 .1 .0, at-loop c .loop .inv .12))
+loop-again c = (search needs, at-call c .one-record .kept .1 .0 ∙ at-loop c .loop .inv .1, at-call c .one-record .kept .1 .1 .0 ∙ at-loop c .loop .inv .2, at-call c .one-record .kept .1 .1 .1 .0 ∙ at-loop c .loop .inv .3, at-call c .one-record .kept .1 .1 .1 .1 .0 ∙ at-loop c .loop .inv .4, at-call c .one-record .kept .1 .1 .1 .1 .1 .0 ∙ at-loop c .loop .inv .5, at-call c .one-record .kept .1 .1 .1 .1 .1 .1 .0 ∙ at-loop c .loop .inv .6, at-call c .one-record .kept .1 .1 .1 .1 .1 .1 .1 .0 ∙ at-loop c .loop .inv .7, at-call c .one-record .kept .1 .1 .1 .1 .1 .1 .1 .1 .0 ∙ at-loop c .loop .inv .8, at-call c .one-record .kept .1 .1 .1 .1 .1 .1 .1 .1 .1 .0 ∙ at-loop c .loop .inv .9, at-call c .one-record .kept .1 .1 .1 .1 .1 .1 .1 .1 .1 .1 .0 ∙ at-loop c .loop .inv .10, at-call c .one-record .kept .1 .1 .1 .1 .1 .1 .1 .1 .1 .1 .1 .0 ∙ at-loop c .loop .inv .11, at-call c .one-record .kept .1 .1 .1 .1 .1 .1 .1 .1 .1 .1 .1 .1 .1 .0 ∙ at-loop c .loop .inv .12)
 
 same-length : tie.Need-same-length Inv-loop μ-loop
 same-length c = search needs
@@ -82,7 +78,6 @@ all-records-spec =
     (tie.spec
     Inv-loop
     μ-loop
-    record-at-requires
     loop-holds
     one-record-requires
     loop-less

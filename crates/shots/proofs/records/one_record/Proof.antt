@@ -1,7 +1,7 @@
--- `shots::run::one_record` meets its contract. Assumes nothing.
+-- `shots::records::one_record` meets its contract. Assumes nothing.
 use borrow.Author.Needs.{needs}
-use Rattle.shots.proofs.run.one_record.Statement.{statement}
-use Rattle.shots.proofs.run.one_record.Tie as tie
+use Rattle.shots.proofs.records.one_record.Statement.{statement}
+use Rattle.shots.proofs.records.one_record.Tie as tie
 
 next-record-requires : tie.Need-next-record-requires
 next-record-requires c κs = search needs
