@@ -7,7 +7,7 @@ use mathlib.Core.List.{List, [], _∷_}
 use Prim.Native.Nat.{ℕ, zero, suc, _<_}
 use native.Mathlib.Nat.{not-suc-le-zero, le-of-suc-le-suc, eq-or-lt-of-le}
 use Rattle.binary.specs.Bits.{_⊕_}
-use Rattle.binary.specs.Meaning.{Qubits, Row, Check, Below, All, odd, sum, Inside, Reads, Fits, IsProduct, Differ, Even, Commute, Fixed, fixed?}
+use Rattle.binary.specs.Meaning.{Qubits, Row, Check, Below, All, odd, sum, Inside, Reads, IsProduct, Differ, Even, Fixed, fixed?}
 use Rattle.binary.specs.Classes.{Commuting, Reduced, ClassLaw}
 use Rattle.binary.proofs.Bits.{⊕-eq, xors, bit, never, strong}
 use Rattle.binary.proofs.Rows.{empty-product, sum-product, odd-sum, odd-product, inside-sum}

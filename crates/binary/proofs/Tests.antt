@@ -1,12 +1,12 @@
 -- The tests of the meaning find just what they are named after. Assumes nothing.
-use mathlib.Core.Path.{_≡_, refl, sym, ap, _∙_, fun-ext, subst}
-use mathlib.Core.Bool.{Bool, true, false, not, _&&_, _||_, Bool·beq}
+use mathlib.Core.Path.{_≡_, refl, sym, _∙_, fun-ext, subst}
+use mathlib.Core.Bool.{Bool, true, false, not, _&&_, Bool·beq}
 use mathlib.Core.Logic.{_↔_}
 use mathlib.Core.List.{List, [], _∷_}
 use Prim.Native.Nat.{ℕ, suc, _<_}
 use Rattle.binary.specs.Bits.{_⊕_, below}
-use Rattle.binary.specs.Meaning.{Qubits, Row, Check, Below, All, all?, has, odd, fires, Inside, inside?, Reads, Fits, fits?, sum, product, IsProduct, anyProduct, Differ, differ?, Even, Commute, commute?, lowest?, Fixed, fixed?}
-use Rattle.binary.proofs.Bits.{bit, never, and-out, and-in, or-out, or-left, or-right, not-in, not-out, imp-in, imp-out, beq-out, beq-in, below-out, below-in, ⊕-out}
+use Rattle.binary.specs.Meaning.{Qubits, Row, Check, Below, All, all?, has, odd, fires, Inside, inside?, Reads, Fits, fits?, sum, product, anyProduct, Differ, differ?, Even, Commute, commute?, lowest?, Fixed, fixed?}
+use Rattle.binary.proofs.Bits.{bit, and-out, and-in, or-out, or-left, or-right, not-in, not-out, imp-in, imp-out, beq-out, beq-in, below-out, below-in, ⊕-out}
 use Rattle.binary.proofs.Rows.{choice, product-below}
 
 ----------------------------------------------------------------------

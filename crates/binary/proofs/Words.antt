@@ -3,17 +3,15 @@ use mathlib.Core.Path.{_≡_, refl, sym, ap, ap₂, _∙_}
 use mathlib.Core.Bool.{Bool, true, false, _||_}
 use mathlib.Core.Logic.{_⊎_, inl, inr, ⊎-elim}
 use mathlib.Core.List.{List}
-use Prim.Native.Nat.{ℕ, suc, _+_, _-_, _*_, _/_, _%_, _^_, _≤_, _<_}
-use native.Mathlib.Nat.{eq-zero-or-pos, le-refl, div-eq-of-lt, div-self, zero-div, mod-self, one-mul, suc-mul, mul-le-mul, mul-le-mul-right}
-use native.Mathlib.Decide.{decLt, ℕ-discrete}
+use Prim.Native.Nat.{ℕ, suc, _+_, _*_, _/_, _%_, _^_, _≤_, _<_}
+use native.Mathlib.Nat.{le-refl, suc-mul, mul-le-mul, mul-le-mul-right}
+use native.Mathlib.Decide.{ℕ-discrete}
 use native.Mathlib.Omega.{arith}
 use borrow.Author.Tests.{eq-eqb, ne-eqb, eqb-true}
-use lib.Dec.{eqb, lit<}
-use lib.Pow.{pow-pos, pow-lt, field, mod-mod-pow, shl-exact}
-use lib.Bits.{bitOr, bitXor, or-shr, or-mod, xor-shr, xor-mod}
+use lib.Dec.{eqb}
+use lib.Bits.{bitOr}
 use lib.ListN.{length, getD, set}
 use lib.Seq.{getD-set-same, getD-set-other}
-use Rattle.binary.specs.Bits.{_⊕_}
 use Rattle.binary.specs.Packed.{bit, cell}
 use Rattle.binary.specs.Search.{Run, BitsSet}
 use Rattle.binary.proofs.Bits.{iff-eq}

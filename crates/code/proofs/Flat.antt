@@ -1,5 +1,5 @@
 -- Lists that hold rows end to end. Assumes nothing.
-use mathlib.Core.Path.{_≡_, refl, ap, ap₂, _∙_, subst}
+use mathlib.Core.Path.{_≡_, refl, ap, ap₂, _∙_}
 use mathlib.Core.Logic.{⊎-elim}
 use mathlib.Core.List.{List, [], _∷_, _++_, append-nil}
 use Prim.Native.Nat.{ℕ, zero, suc, _+_, _-_, _<_, _≤_}
@@ -8,26 +8,16 @@ use native.Mathlib.Omega.{arith}
 use lib.ListN.{length, getD, length-append, List·getD-append}
 use lib.Seq.{getD-append-add}
 use Rattle.binary.specs.Meaning.{Row}
-use Rattle.code.specs.Lists.{startOf, rowAt, rowsFrom, rowsBetween, Held, Flat}
+use Rattle.code.specs.Lists.{startOf, rowAt, rowsFrom, rowsBetween, Flat}
 
 ----------------------------------------------------------------------
--- No rows, fewer rows
+-- No rows
 
 pub flat-none : (flat ends : List ℕ) → Flat [] flat ends
 flat-none flat ends = record { count = omega arith; held = λ r h. absurd (omega arith) }
 
-pub flat-prefix : (rows more : List Row) (flat ends : List ℕ) → Flat (rows ++ more) flat ends → Flat rows flat ends
-flat-prefix rows more flat ends f =
-    record {
-      count = omega (arith, length-append rows more, f .count);
-      held = λ r h. subst (Held flat ends r) (List·getD-append rows more [] r h) (f .held r (omega (arith, length-append rows more)));
-    }
-
 ----------------------------------------------------------------------
 -- The rows that are held
-
-pub flat-row : (rows : List Row) (flat ends : List ℕ) → Flat rows flat ends → (r : ℕ) → r < length rows → rowAt flat ends r ≡ getD rows r []
-flat-row rows flat ends f r h = f .held r h .is
 
 rows-from : (flat ends : List ℕ) (rows : List Row) (r : ℕ) → ((i : ℕ) → i < length rows → rowAt flat ends (r + i) ≡ getD rows i [])
     → rowsFrom flat ends r (length rows) ≡ rows

@@ -14,7 +14,7 @@ use Rattle.code.specs.Lists.{rowsFrom}
 use Rattle.code.specs.Tests.{Ascending}
 use Rattle.halves.specs.declared.Choice.{Choice}
 use Rattle.halves.specs.declared.Choice.the-variants.{NoQubit, Named}
-use Rattle.halves.specs.Machine.{isOpen, better, most, degree}
+use Rattle.machine.specs.Machine.{isOpen, better, most, degree}
 use Rattle.halves.specs.Lists.{view, choiceOf, checksFrom}
 use Rattle.halves.specs.Scans.{CountedRows, betterOf, NamedBelow}
 

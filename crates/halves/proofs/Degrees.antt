@@ -15,7 +15,7 @@ use Rattle.binary.proofs.Bits.{bit}
 use Rattle.code.specs.Lists.{rowAt, rowsFrom}
 use Rattle.code.specs.Tests.{Ascending}
 use Rattle.code.proofs.Order.{Distinct, ascending-distinct}
-use Rattle.halves.specs.Machine.{degree}
+use Rattle.machine.specs.Machine.{degree}
 use Rattle.halves.specs.Lists.{checksFrom}
 use Rattle.halves.specs.Scans.{times, timesIn, Filled, AddedRow, CountedRows}
 

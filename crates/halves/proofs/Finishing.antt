@@ -1,16 +1,16 @@
 -- What a half leaves in its lists, by its word. Assumes nothing.
-use mathlib.Core.Path.{_≡_, refl, sym, ap, _∙_}
-use mathlib.Core.Bool.{Bool, true, false, cond}
+use mathlib.Core.Path.{_≡_, refl, _∙_}
+use mathlib.Core.Bool.{true, false, cond}
 use mathlib.Core.List.{List}
-use Prim.Native.Nat.{ℕ, _%_, _<_}
+use Prim.Native.Nat.{ℕ, _%_}
 use lib.ListN.{getD}
 use Rattle.binary.proofs.Bits.{never}
-use Rattle.halves.specs.declared.Word.{Word}
-use Rattle.halves.specs.declared.Word.the-variants.{Certain, Unsure, None, Spent, Stopped}
-use Rattle.halves.specs.declared.HalfReport.{HalfReport}
+use Rattle.machine.specs.declared.Word.{Word}
+use Rattle.machine.specs.declared.Word.the-variants.{Certain, Unsure, None, Spent, Stopped}
+use Rattle.machine.specs.declared.HalfReport.{HalfReport}
 use Rattle.halves.specs.declared.Ended.{Ended}
-use Rattle.halves.specs.Words.{finished?}
-use Rattle.halves.specs.Report.{marked, none?}
+use Rattle.machine.specs.Words.{finished?}
+use Rattle.machine.specs.Report.{marked, none?}
 use Rattle.halves.specs.Lists.{view}
 use Rattle.halves.specs.Scans.{Filled}
 use Rattle.halves.specs.Starts.{reportBy, Finished}

@@ -1,23 +1,22 @@
 -- The bits of a form's word: with one bit taken out, with a guess replaced, and the highest bit. Assumes nothing.
-use mathlib.Core.Path.{_≡_, refl, sym, ap, ap₂, _∙_, fun-ext, subst}
-use mathlib.Core.Bool.{Bool, true, false, cond, _&&_}
-use mathlib.Core.Logic.{_⊎_, inl, inr, ⊎-elim}
-use Prim.Native.Nat.{ℕ, zero, suc, _+_, _-_, _*_, _/_, _%_, _^_, _≤_, _<_}
-use native.Mathlib.Nat.{eq-zero-or-pos, le-trans, lt-of-lt-of-le, lt-of-le-of-lt, mod-lt, mod-eq-of-lt, div-mul-le-self, div-eq-of-lt, div-eq-of-lt-le, zero-div, one-mul, pow-succ'}
-use native.Mathlib.Decide.{decLt}
+use mathlib.Core.Path.{_≡_, sym, ap, ap₂, _∙_, fun-ext, subst}
+use mathlib.Core.Bool.{true, false}
+use mathlib.Core.Logic.{_⊎_, ⊎-elim}
+use Prim.Native.Nat.{ℕ, suc, _+_, _-_, _*_, _/_, _%_, _^_, _≤_, _<_}
+use native.Mathlib.Nat.{eq-zero-or-pos, le-trans, lt-of-le-of-lt, mod-lt, mod-eq-of-lt, div-mul-le-self, div-eq-of-lt-le, one-mul, pow-succ'}
 use native.Mathlib.Omega.{arith}
 use borrow.Author.Tests.{eq-eqb, ne-eqb}
 use lib.Count.{leadingZeros, leading-top}
-use lib.Dec.{eqb, lit<, eqb·suc-zero}
-use lib.Pow.{pow-pos, pow-mono, shr-shr, high, low, field, mod-mod-pow, shl-exact, shr-le, split}
-use lib.Bits.{bitOr, bitXor, or-shifted, xor-shr, xor-mod}
+use lib.Dec.{eqb}
+use lib.Pow.{pow-pos, high, low, shr-le, split}
+use lib.Bits.{bitOr, bitXor, or-shifted}
 use Rattle.binary.specs.Bits.{_⊕_}
 use Rattle.binary.specs.Packed.{bit}
 use Rattle.binary.proofs.Bits.{⊕-false}
 use Rattle.binary.proofs.WordBits.{order, bit-xor, bit-past, bit-shr, bit-mod, one-shl}
-use Rattle.halves.specs.Machine.{Form, without, replace}
+use Rattle.machine.specs.Machine.{Form, without, replace}
 use Rattle.halves.specs.Sides.{Newest}
-use Rattle.halves.proofs.TakingUp.{without-below, without-above}
+use Rattle.machine.proofs.TakingUp.{without-below, without-above}
 
 ----------------------------------------------------------------------
 -- A bit taken out

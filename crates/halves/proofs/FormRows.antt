@@ -12,7 +12,7 @@ use Rattle.binary.specs.Meaning.{Check, has}
 use Rattle.code.specs.Lists.{rowAt}
 use Rattle.halves.specs.declared.Taken.{Taken}
 use Rattle.halves.specs.declared.Taken.the-variants.{Failed, Live}
-use Rattle.halves.specs.Machine.{Form, Forms, isOpen, part, empty?, bind, takeUp, takeIf, takeUpAll}
+use Rattle.machine.specs.Machine.{Form, Forms, isOpen, part, empty?, bind, takeUp, takeIf, takeUpAll}
 use Rattle.halves.specs.Lists.{view, withLive, checkAt, checksFrom, Topped, TakenAs, TookUp}
 use Rattle.halves.specs.Sides.{check, closedAt?, takeIfClosed}
 

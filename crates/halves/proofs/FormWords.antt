@@ -17,11 +17,11 @@ use Rattle.binary.specs.Meaning.{Row, Check, odd}
 use Rattle.binary.specs.Packed.{bit}
 use Rattle.binary.proofs.Bits.{⊕-false, ⊕-assoc, &&-false, never}
 use Rattle.halves.specs.declared.Taken.the-variants.{Failed, Live}
-use Rattle.halves.specs.Machine.{Form, side, newest, without, replace, takeAt, takeUp, oneLess}
+use Rattle.machine.specs.Machine.{Form, side, newest, without, replace, takeAt, takeUp, oneLess}
 use Rattle.halves.specs.Lists.{view, formsOf, withLive, Topped, TookUp}
 use Rattle.halves.specs.Sides.{check, IsSide, Newest, Replaced}
-use Rattle.halves.proofs.Settling.{side-top}
-use Rattle.halves.proofs.TakingUp.{newest-is, without-below, without-above}
+use Rattle.machine.proofs.Settling.{side-top}
+use Rattle.machine.proofs.TakingUp.{newest-is, without-below, without-above}
 use Rattle.halves.proofs.FormBits.{replaced-low}
 use Rattle.binary.proofs.WordBits.{order, bit-xor, bit-zero, bit-one}
 

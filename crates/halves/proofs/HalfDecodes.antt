@@ -1,33 +1,30 @@
 -- The lists that a half's decode leaves show the machine's outcome. Assumes nothing.
-use mathlib.Core.Path.{_≡_, refl, sym, ap, ap₂, _∙_, subst}
+use mathlib.Core.Path.{_≡_, refl, sym, ap, ap₂, _∙_}
 use mathlib.Core.Bool.{Bool, true, false, not, _&&_, cond}
 use mathlib.Core.Logic.{⊎-elim}
 use mathlib.Core.List.{List}
 use Prim.Native.Nat.{ℕ, _+_, _/_, _%_, _^_, _≤_, _<_}
 use native.Mathlib.Nat.{div-one, eq-zero-or-pos}
 use native.Mathlib.Omega.{arith}
-use lib.Dec.{eqb, leb, ltb}
+use lib.Dec.{eqb, leb}
 use lib.ListN.{length, getD}
 use borrow.Author.Tests.{lt-ltb, leb-true}
-use Rattle.binary.specs.Meaning.{All}
 use Rattle.binary.specs.Packed.{bit}
 use Rattle.binary.proofs.Bits.{bit as cases, never, and-out}
 use Rattle.binary.proofs.WordBits.{bit-zero}
-use Rattle.code.specs.Lists.{rowsFrom}
-use Rattle.code.specs.Tests.{Ascending}
-use Rattle.halves.specs.declared.Word.{Word}
-use Rattle.halves.specs.declared.HalfReport.{HalfReport}
+use Rattle.machine.specs.declared.Word.{Word}
+use Rattle.machine.specs.declared.HalfReport.{HalfReport}
 use Rattle.halves.specs.declared.HalfAnswer.the-variants.{Refused, Decoded}
 use Rattle.halves.specs.declared.Ended.{Ended}
-use Rattle.halves.specs.Words.{finished?}
-use Rattle.halves.specs.Machine.{Form, End, decoded}
-use Rattle.halves.specs.Fillings.{filling}
-use Rattle.halves.specs.Report.{marked, none?, report, shown, outcome}
-use Rattle.halves.specs.Lists.{view, formsOf}
-use Rattle.halves.specs.Decode.{HalfLists, digit, Shows, SameLengths, Given, fitting, Decodes}
+use Rattle.machine.specs.Words.{finished?}
+use Rattle.machine.specs.Machine.{Form, End, decoded}
+use Rattle.machine.specs.Fillings.{filling}
+use Rattle.machine.specs.Report.{marked, none?, report, shown}
+use Rattle.halves.specs.Lists.{view}
+use Rattle.halves.specs.Decode.{HalfLists, digit, Shows, Given, fitting, Decodes}
 use Rattle.halves.specs.Turns.{RowLists, Qubitwise, EndedAs}
 use Rattle.halves.specs.Starts.{halfIn, HalfRun, reportBy, Finished, fits?, HalfDone}
-use Rattle.halves.proofs.Values.{value-off}
+use Rattle.machine.proofs.Values.{value-off}
 use Rattle.halves.proofs.Finishing.{not-none}
 
 digit-constant : (x : ℕ) → x % 2 ≡ digit (bit x 0)

@@ -1,29 +1,29 @@
 -- The start and the turns in the lists are the machine's half. Assumes nothing.
 use mathlib.Core.Path.{_≡_, refl, sym, ap, ap₂, _∙_, fun-ext, subst}
 use mathlib.Core.Bool.{Bool, true, false, _&&_}
-use mathlib.Core.Option.{Option, none, some}
-use mathlib.Core.List.{List, [], _∷_}
-use Prim.Native.Nat.{ℕ, zero, suc, _+_, _≤_, _<_, zero-le}
+use mathlib.Core.Option.{Option}
+use mathlib.Core.List.{List, _∷_}
+use Prim.Native.Nat.{ℕ, zero, suc, _+_, _≤_, zero-le}
 use native.Mathlib.Nat.{add-zero}
 use native.Mathlib.Omega.{arith}
 use lib.Dec.{eqb, ltb}
-use lib.ListN.{length, getD}
+use lib.ListN.{getD}
 use borrow.Author.Tests.{lt-ltb}
-use Rattle.binary.specs.Meaning.{Row, Qubits, Check, All, fixed?}
+use Rattle.binary.specs.Meaning.{Qubits, Check, All, fixed?}
 use Rattle.binary.specs.Packed.{listed}
 use Rattle.binary.proofs.Bits.{never}
 use Rattle.code.specs.Lists.{rowAt, rowsFrom}
 use Rattle.code.specs.Tests.{Ascending}
-use Rattle.halves.specs.declared.Word.the-variants.{None}
+use Rattle.machine.specs.declared.Word.the-variants.{None}
 use Rattle.halves.specs.declared.Taken.{Taken}
 use Rattle.halves.specs.declared.Taken.the-variants.{Failed, Live}
 use Rattle.halves.specs.declared.Ended.{Ended}
-use Rattle.halves.specs.Machine.{State, Stage, on, failed, End, isOpen, closed?, takeUpAll, blank, stage, startMark, start, degree, most, run, Half, readings, checks, ruleOf, startOf, decoded}
+use Rattle.machine.specs.Machine.{Stage, on, failed, isOpen, closed?, takeUpAll, blank, stage, startMark, start, degree, most, run, Half, readings, checks, decoded}
 use Rattle.halves.specs.Lists.{view, checksFrom, stateOf, Topped}
 use Rattle.halves.specs.Scans.{CountedRows}
 use Rattle.halves.specs.Turns.{RowLists, rowChecks, Qubitwise, Kept, StageAs, mostBy, EndedAs, runFrom}
 use Rattle.halves.specs.Starts.{Started, halfIn, HalfRun}
-use Rattle.halves.proofs.Budgets.{FewAt, few-stage}
+use Rattle.machine.proofs.Budgets.{FewAt, few-stage}
 use Rattle.halves.proofs.Choices.{counted-rule}
 use Rattle.halves.proofs.Running.{run-failed}
 

@@ -1,14 +1,3 @@
-pub mod Bench
-pub mod Values
-pub mod Settling
-pub mod TakingUp
-pub mod Runs
-pub mod Stages
-pub mod Guessing
-pub mod Budgets
-pub mod Counts
-pub mod Verdicts
-pub mod Demands
 pub mod Seen
 pub mod FormBits
 pub mod FormWords

@@ -1,13 +1,13 @@
 -- One turn in the lists is one turn of the machine. Assumes nothing.
 use mathlib.Core.Path.{_≡_, refl, sym, ap, _∙_, subst}
-use mathlib.Core.Bool.{Bool, true, false, not, _&&_}
+use mathlib.Core.Bool.{Bool, true, false, not}
 use mathlib.Core.Option.{Option, none, some}
-use mathlib.Core.List.{List, [], _∷_}
-use Prim.Native.Nat.{ℕ, zero, suc, _<_}
+use mathlib.Core.List.{List, []}
+use Prim.Native.Nat.{ℕ, zero, suc}
 use lib.Dec.{eqb}
 use lib.ListN.{getD}
 use Rattle.binary.specs.Bits.{below}
-use Rattle.binary.specs.Meaning.{Qubits, Check}
+use Rattle.binary.specs.Meaning.{Check}
 use Rattle.binary.proofs.Bits.{never, eq-eqb, eqb-differ, below-in, not-in}
 use Rattle.code.specs.declared.Qubit.{Qubit}
 use Rattle.code.specs.declared.Row.{Row}
@@ -18,16 +18,15 @@ use Rattle.halves.specs.declared.Choice.the-variants.{NoQubit, Named}
 use Rattle.halves.specs.declared.Taken.{Taken}
 use Rattle.halves.specs.declared.Move.the-variants.{Spent, Made}
 use Rattle.halves.specs.declared.Ended.{Ended}
-use Rattle.halves.specs.declared.Word.the-variants.{Certain, Unsure}
-use Rattle.halves.specs.Words.{finished}
-use Rattle.halves.specs.Machine.{State, Stage, isOpen, dangling, some?, most, peel, guess}
-use Rattle.halves.specs.Lists.{view, stateOf, checkAt, checksFrom, DanglingAs, choiceOf}
+use Rattle.machine.specs.declared.Word.the-variants.{Certain, Unsure}
+use Rattle.machine.specs.Words.{finished}
+use Rattle.machine.specs.Machine.{isOpen, dangling}
+use Rattle.halves.specs.Lists.{view, checkAt, DanglingAs, choiceOf}
 use Rattle.halves.specs.Scans.{FoundDangling}
-use Rattle.halves.specs.Turns.{RowLists, rowChecks, Qubitwise, StageAs, Turned, peelBy, guessBy, turnBy, mostBy, spent?, Moved}
-use Rattle.halves.proofs.Settling.{part-open}
-use Rattle.halves.proofs.Runs.{Rule}
-use Rattle.halves.proofs.Stages.{dangling-is}
-use Rattle.halves.proofs.Guessing.{most-rule}
+use Rattle.halves.specs.Turns.{RowLists, rowChecks, Qubitwise, Turned, peelBy, guessBy, turnBy, mostBy, Moved}
+use Rattle.machine.proofs.Settling.{part-open}
+use Rattle.machine.proofs.Stages.{dangling-is}
+use Rattle.machine.proofs.Guessing.{most-rule}
 
 module _ (n : ℕ) (c : RowLists) (marks : List ℕ) where
   abbrev lowest : Option (ℕ × Check)

@@ -1,6 +1,6 @@
 -- The loop over the turns is the machine's run. Assumes nothing.
 use mathlib.Core.Path.{_≡_, refl, sym, ap, ap₂, _∙_, subst}
-use mathlib.Core.Bool.{Bool, true, false, not, _&&_, cond}
+use mathlib.Core.Bool.{Bool, true, false, not}
 use mathlib.Core.Option.{Option, none, some}
 use mathlib.Core.List.{List}
 use Prim.Native.Nat.{ℕ, zero, suc, _+_, _-_, _≤_, _<_, zero-le}
@@ -10,24 +10,24 @@ use lib.Dec.{eqb}
 use lib.ListN.{getD}
 use Rattle.binary.specs.Bits.{below, count, tally}
 use Rattle.binary.specs.Meaning.{Qubits, Check}
-use Rattle.binary.proofs.Bits.{bit as cases, never, eq-eqb, eqb-differ, below-in, below-out, and-out, tally-none, not-in, not-out}
-use Rattle.halves.specs.declared.Word.{Word}
-use Rattle.halves.specs.declared.Word.the-variants.{None, Stopped}
-use Rattle.halves.specs.declared.Word
+use Rattle.binary.proofs.Bits.{bit as cases, never, eq-eqb, eqb-differ, and-out, not-out}
+use Rattle.machine.specs.declared.Word.{Word}
+use Rattle.machine.specs.declared.Word.the-variants.{None, Stopped}
+use Rattle.machine.specs.declared.Word
 use Rattle.halves.specs.declared.Taken.{Taken}
 use Rattle.halves.specs.declared.Taken.the-variants.{Failed, Live}
 use Rattle.halves.specs.declared.Move.{Move}
 use Rattle.halves.specs.declared.Move.the-variants.{Spent, Made}
 use Rattle.halves.specs.declared.Ended.{Ended}
-use Rattle.halves.specs.Words.{finished}
-use Rattle.halves.specs.Machine.{State, Stage, on, failed, End, isOpen, dangling, some?, noneOpen, dangles, before, onward, turn, run}
-use Rattle.halves.specs.Report.{marked, none?}
+use Rattle.machine.specs.Words.{finished}
+use Rattle.machine.specs.Machine.{State, Stage, on, failed, End, isOpen, noneOpen, before, turn, run}
+use Rattle.machine.specs.Report.{marked}
 use Rattle.halves.specs.Lists.{view, stateOf, Topped}
 use Rattle.halves.specs.Turns.{RowLists, rowChecks, Qubitwise, StageAs, Kept, Turned, turnBy, mostBy, spent?, Moved, EndedAs, runFrom}
-use Rattle.halves.proofs.Runs.{Rule, turnsOf, Unsaid}
-use Rattle.halves.proofs.Guessing.{most-rule}
-use Rattle.halves.proofs.Budgets.{FewAt, few-turn}
-use Rattle.halves.proofs.Counts.{OpenAt, open-turn}
+use Rattle.machine.proofs.Runs.{Unsaid}
+use Rattle.machine.proofs.Guessing.{most-rule}
+use Rattle.machine.proofs.Budgets.{FewAt, few-turn}
+use Rattle.machine.proofs.Counts.{OpenAt, open-turn}
 use Rattle.halves.proofs.Scanning.{open-below}
 
 ----------------------------------------------------------------------

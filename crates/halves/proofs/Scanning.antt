@@ -17,8 +17,8 @@ use Rattle.code.specs.Lists.{rowAt}
 use Rattle.halves.specs.declared.Open.{Open}
 use Rattle.halves.specs.declared.Open.the-variants.{Closed, One, More}
 use Rattle.halves.specs.declared.Dangling.the-variants.{NoRow, At}
-use Rattle.halves.specs.Machine.{isOpen, keepIf, part, empty?, only, orElse, dangling}
-use Rattle.halves.specs.Report.{marked}
+use Rattle.machine.specs.Machine.{isOpen, keepIf, part, empty?, only, orElse, dangling}
+use Rattle.machine.specs.Report.{marked}
 use Rattle.halves.specs.Lists.{view, checkAt, checksFrom, openOf}
 use Rattle.halves.specs.Scans.{OpenFrom, FoundDangling}
 

@@ -1,24 +1,22 @@
 -- What the report and the lists of a decode show is what the half shows: the demands hold of the lists at exit. Assumes nothing.
-use mathlib.Core.Path.{_≡_, refl, sym, ap, ap₂, _∙_, fun-ext, subst}
-use mathlib.Core.Bool.{Bool, true, false, not, _&&_, cond}
-use mathlib.Core.Logic.{_⊎_, inl, inr, ⊎-elim}
+use mathlib.Core.Path.{_≡_, refl, sym, ap, _∙_, fun-ext, subst}
+use mathlib.Core.Bool.{Bool, true, false, not, _&&_}
+use mathlib.Core.Logic.{_⊎_, ⊎-elim}
 use Prim.Native.Nat.{ℕ, _≤_, _<_}
 use native.Mathlib.Omega.{arith}
-use lib.Dec.{T, eqb, ltb, ltb→lt, lt→ltb, nltb→le}
+use lib.Dec.{T, eqb, ltb, ltb→lt, lt→ltb}
 use mathlib.Core.List.{List}
 use lib.ListN.{getD}
-use Rattle.binary.specs.Meaning.{Qubits}
 use Rattle.binary.proofs.Bits.{bit as cases, eqb-eq, &&-false}
 use Rattle.binary.proofs.WordBits.{order, bit-zero}
-use Rattle.halves.specs.Words.{finished?}
-use Rattle.halves.specs.Machine.{Form, End, Half, isSettled, decoded}
-use Rattle.halves.specs.Fillings.{filling}
-use Rattle.halves.specs.Report.{Shown, shown, outcome, none?}
-use Rattle.halves.specs.Demands.{Obeys, Counts, CountsLaw}
+use Rattle.machine.specs.Words.{finished?}
+use Rattle.machine.specs.Machine.{End, Half, decoded}
+use Rattle.machine.specs.Report.{Shown, shown, outcome, none?}
+use Rattle.machine.specs.Demands.{Obeys, Counts, CountsLaw}
 use Rattle.halves.specs.Lists.{view, formsOf}
 use Rattle.halves.specs.Decode.{HalfLists, digit, Shows, seen}
-use Rattle.halves.proofs.Values.{value-off}
-use Rattle.halves.proofs.Demands.{counts}
+use Rattle.machine.proofs.Values.{value-off}
+use Rattle.machine.proofs.Demands.{counts}
 
 ----------------------------------------------------------------------
 -- Views

@@ -1,28 +1,27 @@
 -- The start of a half in the lists is the machine's start. Assumes nothing.
-use mathlib.Core.Path.{_≡_, refl, sym, ap, ap₂, _∙_, fun-ext, subst}
-use mathlib.Core.Bool.{Bool, true, false, _&&_, cond}
+use mathlib.Core.Path.{_≡_, refl, sym, ap, _∙_, fun-ext, subst}
+use mathlib.Core.Bool.{Bool, true, false, cond}
 use mathlib.Core.Logic.{⊎-elim}
 use mathlib.Core.Option.{Option, none, some}
 use mathlib.Core.List.{List, [], _∷_, _++_}
 use Prim.Native.Nat.{ℕ, zero, suc, _+_, _*_, _≤_, _<_}
-use native.Mathlib.Nat.{add-zero, mul-le-mul-right, le-trans}
+use native.Mathlib.Nat.{add-zero}
 use native.Mathlib.Numerals.{add-one}
 use native.Mathlib.Omega.{arith}
-use lib.Dec.{eqb, leb, ltb}
-use lib.ListN.{length, getD}
+use lib.ListN.{length}
 use borrow.Author.Tests.{lt-ltb, le-ltb, le-leb}
-use Rattle.binary.specs.Meaning.{Row, Qubits, All, fixed?}
+use Rattle.binary.specs.Meaning.{Row, All, fixed?}
 use Rattle.binary.specs.Packed.{wordsFor, room, Packed, Put, Marked, enough, listed}
 use Rattle.binary.proofs.Bits.{never}
 use Rattle.binary.proofs.Elimination.{fixed-lost}
 use Rattle.binary.proofs.WordBits.{order, bit-zero}
 use Rattle.binary.proofs.Words.{few-words}
-use Rattle.binary.proofs.Put.{packed-none, packed-more}
+use Rattle.binary.proofs.Put.{packed-more}
 use Rattle.code.specs.Lists.{rowAt, rowsFrom}
 use Rattle.code.specs.Tests.{Ascending}
 use Rattle.code.proofs.Order.{rows-below}
 use Rattle.halves.specs.declared.Taken.{Taken}
-use Rattle.halves.specs.Machine.{Form, Forms, isOpen, closed?, takeUpAll, blank, stage, startMark}
+use Rattle.machine.specs.Machine.{Form, Forms, isOpen, closed?, takeUpAll, blank, stage, startMark}
 use Rattle.halves.specs.Lists.{view, formsOf, withLive, Topped, TakenAs, TookUp}
 use Rattle.halves.specs.Sides.{closedAt?}
 use Rattle.halves.specs.Scans.{Filled, openMark}

@@ -16,13 +16,12 @@ use Rattle.binary.proofs.Bits.{bit as cases, never, eqb-eq, eq-eqb, eqb-differ,
 use Rattle.binary.proofs.WordBits.{bit-pow, one-shl}
 use Rattle.code.specs.Lists.{rowAt}
 use Rattle.halves.specs.declared.Taken.{Taken}
-use Rattle.halves.specs.declared.Taken.the-variants.{Failed, Live}
-use Rattle.halves.specs.Machine.{Form, Forms, State, put, isOpen, keepIf, part, empty?, closed?, closing, side, takeUpAll, stage, settle}
-use Rattle.halves.specs.Lists.{view, formsOf, withLive, stateOf, checkAt, Topped, TakenAs, TookUp}
+use Rattle.machine.specs.Machine.{Form, Forms, put, isOpen, part, empty?, closed?, closing, side, takeUpAll, stage, settle}
+use Rattle.halves.specs.Lists.{view, formsOf, withLive, stateOf, Topped, TakenAs, TookUp}
 use Rattle.halves.specs.Sides.{check, IsSide, closedAt?}
-use Rattle.halves.specs.Turns.{RowLists, rowChecks, Qubitwise, StageAs, Kept, Turned, ToppedWord, settleBy, peelBy, guessBy}
-use Rattle.halves.proofs.Settling.{side-top}
-use Rattle.halves.proofs.Stages.{open-put}
+use Rattle.halves.specs.Turns.{RowLists, rowChecks, Qubitwise, StageAs, Turned, ToppedWord, settleBy, peelBy, guessBy}
+use Rattle.machine.proofs.Settling.{side-top}
+use Rattle.machine.proofs.Stages.{open-put}
 use Rattle.halves.proofs.Seen.{ltb-yes}
 
 ----------------------------------------------------------------------

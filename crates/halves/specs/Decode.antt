@@ -14,10 +14,10 @@ use Rattle.binary.specs.Meaning.{All}
 use Rattle.binary.specs.Packed.{bit}
 use Rattle.code.specs.Lists.{rowsFrom}
 use Rattle.code.specs.Tests.{Ascending}
-use Rattle.halves.specs.declared.HalfReport.{HalfReport}
+use Rattle.machine.specs.declared.HalfReport.{HalfReport}
 use Rattle.halves.specs.declared.HalfAnswer.{HalfAnswer}
 use Rattle.halves.specs.declared.HalfAnswer.the-variants.{Refused, Decoded}
-use Rattle.halves.specs.Report.{Shown, outcome}
+use Rattle.machine.specs.Report.{Shown, outcome}
 use Rattle.halves.specs.Lists.{view, formsOf, halfOf}
 
 pub record HalfLists : Type 0 where

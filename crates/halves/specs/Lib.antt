@@ -1,9 +1,3 @@
-pub mod Words
-pub mod Machine
-pub mod Fillings
-pub mod Report
-pub mod Bench
-pub mod Demands
 pub mod Lists
 pub mod Decode
 pub mod Sides

@@ -8,13 +8,13 @@
 --   Topped      no form has a bit above the live guesses
 --   TookUp      what taking up rows leaves in the list of forms
 use mathlib.Core.Path.{_≡_}
-use mathlib.Core.Bool.{Bool, true, false, _&&_, cond}
+use mathlib.Core.Bool.{false, _&&_, cond}
 use mathlib.Core.Option.{Option, none, some}
 use mathlib.Core.List.{List, [], _∷_}
 use Prim.Native.Nat.{ℕ, zero, suc, _+_, _≤_, _<_}
 use lib.Dec.{eqb, ltb}
 use lib.ListN.{length, getD}
-use Rattle.binary.specs.Meaning.{Row, Check}
+use Rattle.binary.specs.Meaning.{Check}
 use Rattle.binary.specs.Packed.{bit, listed}
 use Rattle.code.specs.Lists.{rowAt, rowsFrom}
 use Rattle.halves.specs.declared.Open.{Open}
@@ -25,7 +25,7 @@ use Rattle.halves.specs.declared.Choice.{Choice}
 use Rattle.halves.specs.declared.Choice.the-variants.{NoQubit, Named}
 use Rattle.halves.specs.declared.Taken.{Taken}
 use Rattle.halves.specs.declared.Taken.the-variants.{Failed, Live}
-use Rattle.halves.specs.Machine.{Form, Forms, State, Half}
+use Rattle.machine.specs.Machine.{Form, Forms, State, Half}
 
 ----------------------------------------------------------------------
 -- Lists read

@@ -25,7 +25,7 @@ use Rattle.halves.specs.declared.Dangling.{Dangling}
 use Rattle.halves.specs.declared.Dangling.the-variants.{At}
 use Rattle.halves.specs.declared.Choice.{Choice}
 use Rattle.halves.specs.declared.Choice.the-variants.{NoQubit, Named}
-use Rattle.halves.specs.Machine.{isOpen, part, dangling, degree}
+use Rattle.machine.specs.Machine.{isOpen, part, dangling, degree}
 use Rattle.halves.specs.Lists.{view, checkAt, checksFrom, DanglingAs}
 
 ----------------------------------------------------------------------

@@ -13,7 +13,7 @@ use Prim.Native.Nat.{ℕ, _≤_, _<_}
 use lib.ListN.{length, getD}
 use Rattle.binary.specs.Meaning.{Qubits, Row, Check, has}
 use Rattle.binary.specs.Packed.{bit}
-use Rattle.halves.specs.Machine.{Forms, side, replace, isOpen, closed?, takeIf}
+use Rattle.machine.specs.Machine.{Forms, side, replace, isOpen, closed?, takeIf}
 use Rattle.halves.specs.Lists.{view, withLive}
 
 abbrev pub check : Bool → Row → Check

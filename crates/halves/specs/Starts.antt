@@ -16,13 +16,13 @@ use Rattle.binary.specs.Meaning.{All, fixed?}
 use Rattle.binary.specs.Packed.{wordsFor, Packed, listed}
 use Rattle.code.specs.Lists.{rowsFrom}
 use Rattle.code.specs.Tests.{Ascending}
-use Rattle.halves.specs.declared.Word.{Word}
-use Rattle.halves.specs.declared.HalfReport.{HalfReport}
+use Rattle.machine.specs.declared.Word.{Word}
+use Rattle.machine.specs.declared.HalfReport.{HalfReport}
 use Rattle.halves.specs.declared.Taken.{Taken}
 use Rattle.halves.specs.declared.Ended.{Ended}
-use Rattle.halves.specs.Machine.{isOpen, closed?, takeUpAll, blank, stage, startMark, Half, decoded}
-use Rattle.halves.specs.Words.{finished?}
-use Rattle.halves.specs.Report.{marked, none?, outcome}
+use Rattle.machine.specs.Machine.{isOpen, closed?, takeUpAll, blank, stage, startMark, Half, decoded}
+use Rattle.machine.specs.Words.{finished?}
+use Rattle.machine.specs.Report.{marked, none?, outcome}
 use Rattle.halves.specs.Lists.{view, halfOf}
 use Rattle.halves.specs.Scans.{Filled}
 use Rattle.halves.specs.Decode.{HalfLists, SameLengths, Shows}

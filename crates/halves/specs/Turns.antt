@@ -7,7 +7,7 @@
 --   EndedAs     the lists and the answer are the end of a half
 use mathlib.Core.Path.{_≡_}
 use mathlib.Core.Bool.{Bool, true, false, not, _&&_}
-use mathlib.Core.Option.{Option, none, some}
+use mathlib.Core.Option.{Option}
 use mathlib.Core.List.{List}
 use Prim.Native.Nat.{ℕ, suc, _≤_, _<_}
 use lib.Dec.{eqb}
@@ -19,9 +19,9 @@ use Rattle.halves.specs.declared.Taken.the-variants.{Failed, Live}
 use Rattle.halves.specs.declared.Move.{Move}
 use Rattle.halves.specs.declared.Move.the-variants.{Spent, Made}
 use Rattle.halves.specs.declared.Ended.{Ended}
-use Rattle.halves.specs.Machine.{Form, Forms, State, Stage, on, failed, End, put, isOpen, dangling, some?, most, settle, peel, guess, turn, run}
-use Rattle.halves.specs.Report.{none?}
-use Rattle.halves.specs.Lists.{view, formsOf, withLive, stateOf, checkAt, checksFrom, Topped}
+use Rattle.machine.specs.Machine.{State, Stage, on, failed, End, put, isOpen, dangling, some?, most, settle, peel, guess, turn, run}
+use Rattle.machine.specs.Report.{none?}
+use Rattle.halves.specs.Lists.{view, formsOf, stateOf, checkAt, checksFrom, Topped}
 
 pub record RowLists : Type 0 where
   pub flat : List ℕ

@@ -2,14 +2,10 @@
 ghost use mathlib.Core.Path.{_≡_};
 ghost use Prim.Native.Nat.{_+_, _≤_};
 ghost use lib.ListN.{length};
-ghost use Rattle.halves.specs.Report.{none?};
-ghost use Rattle.halves.specs.Turns.{RowLists, Qubitwise};
+ghost use Rattle.machine.specs.Report.{none?};
 ghost use Rattle.halves.specs.Starts.{PackedFrom, Started, HalfRun, reportBy, Finished, fits?, HalfDone};
-ghost use Rattle.halves.specs.Decode.{HalfLists};
 use crate::Ended;
-use crate::HalfReport;
 use crate::Taken;
-use crate::Word;
 use crate::fills;
 use crate::forms;
 use crate::guesses;
@@ -17,6 +13,8 @@ use crate::rows;
 use crate::turns;
 use code::Qubit;
 use code::Row;
+use machine::HalfReport;
+use machine::Word;
 
 // A number as an index.
 fn index(x: u16) -> usize
@@ -175,7 +173,7 @@ fn finish(n: usize, word: Word, marks: &mut [u8], forms: &mut [u64], correction:
     requires { ⌜ (n ≤ length (now marks)) × (n ≤ length (now forms)) × (n ≤ length (now correction)) ⌝ }
     ensures { λ _. ⌜ Finished n word (record { marks = now (marks .entry); forms = now (forms .entry); correction = now (correction .entry) }) (record { marks = now (marks .exit); forms = now (forms .exit); correction = now (correction .exit) }) ⌝ }
 {
-    if crate::is_finished(word) {
+    if machine::is_finished(word) {
         fills::write_flips(n, forms, correction);
         return;
     }

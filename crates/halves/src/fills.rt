@@ -1,7 +1,7 @@
 // Lists written from their start.
 ghost use mathlib.Core.Path.{_≡_};
-ghost use Prim.Native.Nat.{ℕ, _%_, _≤_};
-ghost use lib.ListN.{length, getD};
+ghost use Prim.Native.Nat.{_%_, _≤_};
+ghost use lib.ListN.{getD};
 ghost use Rattle.halves.specs.Scans.{Filled};
 
 // The first n words to 0.

@@ -4,7 +4,7 @@ ghost use mathlib.Core.Bool.{cond};
 ghost use Prim.Native.Nat.{ℕ, _+_, _≤_, _<_};
 ghost use lib.ListN.{length};
 ghost use Rattle.binary.specs.Packed.{bit};
-ghost use Rattle.halves.specs.Machine.{without, replace, isOpen, takeUp, takeUpAll};
+ghost use Rattle.machine.specs.Machine.{without, replace, isOpen, takeUp, takeUpAll};
 ghost use Rattle.halves.specs.Lists.{view, withLive, checkAt, checksFrom, Topped, TookUp};
 ghost use Rattle.halves.specs.Sides.{check, IsSide, Newest, Replaced, closedAt?, takeIfClosed};
 use crate::Taken;

@@ -2,7 +2,7 @@
 ghost use mathlib.Core.Path.{_≡_};
 ghost use Prim.Native.Nat.{ℕ, _+_, _^_, _≤_, _<_};
 ghost use lib.ListN.{getD};
-ghost use Rattle.halves.specs.Machine.{isOpen, most};
+ghost use Rattle.machine.specs.Machine.{isOpen, most};
 ghost use Rattle.halves.specs.Lists.{view, choiceOf};
 ghost use Rattle.halves.specs.Scans.{times, AddedRow, CountedRows, betterOf, NamedBelow};
 use crate::Choice;

@@ -1,7 +1,5 @@
-// A half of a shot: its words and its report.
-ghost use mathlib.Core.Path.{_≡_};
-ghost use Rattle.halves.specs.Words.{finished?};
-ghost use Rattle.halves.specs.Decode.{Given, HalfLists, Decodes};
+// The decode of a half of a shot.
+ghost use Rattle.halves.specs.Decode.{Decodes};
 
 mod decode;
 mod fills;
@@ -12,24 +10,8 @@ mod turns;
 
 use code::Qubit;
 use code::Row;
-
-// The five words in which a decode ends for each half.
-pub enum Word {
-    Certain,
-    Unsure,
-    None,
-    Spent,
-    Stopped,
-}
-
-// What is reported of a half: the word and the four counts.
-pub struct HalfReport {
-    pub word: Word,
-    pub fixed: u16,
-    pub turns: u16,
-    pub guesses: u16,
-    pub live: u16,
-}
+use machine::HalfReport;
+use machine::Word;
 
 // The answer to the decode of a half.
 pub enum HalfAnswer {
@@ -73,19 +55,6 @@ struct Ended {
     word: Word,
     turns: u16,
     live: u16,
-}
-
-// Whether the word is said of a finished half, which has flips.
-pub fn is_finished(w: Word) -> bool
-    ensures { λ r. ⌜ r ≡ finished? w ⌝ }
-{
-    match w {
-        Word::Certain => true,
-        Word::Unsure => true,
-        Word::None => false,
-        Word::Spent => false,
-        Word::Stopped => false,
-    }
 }
 
 // The decode of one half: its own rows are `count` from row `first` on, the other kind's `others` from row `other` on.

@@ -5,22 +5,22 @@ ghost use Prim.Native.Nat.{ℕ, suc, _+_, _≤_, _<_};
 ghost use lib.Dec.{eqb};
 ghost use lib.ListN.{length};
 ghost use Rattle.binary.specs.Bits.{below};
-ghost use Rattle.halves.specs.Machine.{isOpen};
-ghost use Rattle.halves.specs.Words;
-ghost use Rattle.halves.specs.Report.{marked};
+ghost use Rattle.machine.specs.Machine.{isOpen};
+ghost use Rattle.machine.specs.Words;
+ghost use Rattle.machine.specs.Report.{marked};
 ghost use Rattle.halves.specs.Lists.{view, Topped};
-ghost use Rattle.halves.specs.Turns.{RowLists, rowChecks, Qubitwise, Turned, ToppedWord, settleBy, peelBy, guessBy, Moved, EndedAs, runFrom};
+ghost use Rattle.halves.specs.Turns.{Turned, ToppedWord, settleBy, peelBy, guessBy, Moved, EndedAs, runFrom};
 use crate::Choice;
 use crate::Dangling;
 use crate::Ended;
 use crate::Move;
 use crate::Taken;
-use crate::Word;
 use crate::forms;
 use crate::guesses;
 use crate::rows;
 use code::Qubit;
 use code::Row;
+use machine::Word;
 
 // The open qubit p gets a mark and a form; then the rows that this turn closed are taken up.
 fn settle(

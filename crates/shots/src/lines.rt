@@ -2,34 +2,12 @@
 use crate::output::put_byte;
 use crate::output::put_number;
 use crate::output::put_text;
-use halves::HalfReport;
-use halves::Word;
+use machine::HalfReport;
+use machine::Word;
 use stream::Answer;
 use stream::Refusal;
 use stream::Sizes;
-ghost use mathlib.Core.Path.{_≡_};
-ghost use Rattle.stream.specs.Table.{refusalNumber};
 ghost use Rattle.shots.specs.Blocks.{Room};
-
-// The table's number of a refusal.
-fn refusal_number(r: Refusal) -> u8
-    ensures { λ n. ⌜ n ≡ refusalNumber r ⌝ }
-{
-    match r {
-        Refusal::Unknown => 1,
-        Refusal::Length => 2,
-        Refusal::Size => 3,
-        Refusal::Place => 4,
-        Refusal::Row => 5,
-        Refusal::Clash => 6,
-        Refusal::Codeless => 7,
-        Refusal::Range => 8,
-        Refusal::Twice => 9,
-        Refusal::Budget => 10,
-        Refusal::Spoiled => 11,
-        Refusal::Short => 12,
-    }
-}
 
 // The word of a half.
 fn put_word(out: &mut [u8], at: usize, word: Word) -> usize
@@ -75,7 +53,7 @@ fn put_flips(out: &mut [u8], at: usize, word: Word, correction: &[u8], n: usize)
     requires { ⌜ Room at (now out) ⌝ }
     ensures { λ r. ⌜ Room r (now (out .exit)) ⌝ }
 {
-    if !halves::is_finished(word) {
+    if !machine::is_finished(word) {
         return at;
     }
     let end = put_text(out, at, b" flip");
@@ -131,7 +109,7 @@ fn put_refusal(out: &mut [u8], at: usize, r: Refusal, kind: u8) -> usize
     ensures { λ r. ⌜ Room r (now (out .exit)) ⌝ }
 {
     let mut end = put_text(out, at, b"refused");
-    end = put_number(out, end, refusal_number(r) as u64);
+    end = put_number(out, end, stream::refusal_number(r) as u64);
     end = put_number(out, end, kind as u64);
     put_byte(out, end, b'\n')
 }

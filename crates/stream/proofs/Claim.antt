@@ -1,36 +1,34 @@
 -- Demands 1 to 3 hold of every list of calls from a fresh start. Assumes nothing.
-use mathlib.Core.Path.{_≡_, refl, sym, ap, ap₂, _∙_, subst}
-use mathlib.Core.Bool.{Bool, true, false, _||_}
-use mathlib.Core.Logic.{_⊎_, inl, inr}
+use mathlib.Core.Path.{_≡_, refl, sym, ap, _∙_, subst}
+use mathlib.Core.Bool.{Bool, true, false}
 use mathlib.Core.Option.{Option, none, some}
 use mathlib.Core.List.{List, [], _∷_, _++_}
 use Prim.Native.Nat.{ℕ, _≤_, _<_}
 use lib.Dec.{T, ltb, ltb→lt}
 use lib.ListN.{length}
-use Rattle.binary.specs.Meaning.{Qubits, Commute, commute?}
+use Rattle.binary.specs.Meaning.{Qubits}
 use Rattle.binary.specs.Packed.{listed}
 use Rattle.binary.proofs.Bits.{never, and-out}
 use Rattle.binary.proofs.Tests.{commute-test}
 use Rattle.code.proofs.Order.{rows-below}
 use Rattle.code.proofs.Sharing.{commute-symmetric}
-use Rattle.halves.specs.declared.Word.the-variants.{None}
-use Rattle.halves.specs.declared.HalfReport.{HalfReport}
-use Rattle.halves.specs.Machine.{Half}
-use Rattle.halves.specs.Report.{Shown, outcome}
-use Rattle.halves.specs.Demands.{Obeys, VerdictLaw, FillingsLaw, ClassesLaw, BudgetsLaw}
-use Rattle.halves.specs.Decode.{HalfLists, Shows, seen}
-use Rattle.halves.proofs.Demands.{verdict, fillings, classes, budgets}
+use Rattle.machine.specs.declared.HalfReport.{HalfReport}
+use Rattle.machine.specs.Machine.{Half}
+use Rattle.machine.specs.Report.{Shown, outcome}
+use Rattle.machine.specs.Demands.{Obeys, VerdictLaw, FillingsLaw, ClassesLaw, BudgetsLaw}
+use Rattle.halves.specs.Decode.{Shows, seen}
+use Rattle.machine.proofs.Demands.{verdict, fillings, classes, budgets}
 use Rattle.halves.proofs.Seen.{seen-is}
 use Rattle.stream.specs.declared.Report.{Report}
 use Rattle.stream.specs.declared.State.{State}
 use Rattle.stream.specs.declared.Refusal.{Refusal}
 use Rattle.stream.specs.declared.Answer.{Answer}
-use Rattle.stream.specs.declared.Answer.the-variants.{Refused, Taken, Complete, Decoded}
+use Rattle.stream.specs.declared.Answer.the-variants.{Decoded}
 use Rattle.stream.specs.Records.{Pauli, X, Z, Record, report, recordOf}
-use Rattle.stream.specs.History.{Code, rowsOf, Shot, History, empty, loading, ready, half}
+use Rattle.stream.specs.History.{Code, Shot, History, empty, ready, half}
 use Rattle.stream.specs.Table.{afterwards}
-use Rattle.stream.specs.Promise.{Lists, Six, Lent, GoodRows, HeldShot, NoShot, ShotIn, Holds, Represents, shortLists, refusalAt, answerOf, Left, Written, Unworked, KeptLengths, Carried, Promise}
-use Rattle.stream.specs.Claim.{Call, lent, Run, ended, call, Fresh, past, Told, reportFor, listsFor, shows, Reported, HalfRight, SameHalf, Place, at, begins, Claim}
+use Rattle.stream.specs.Promise.{Lists, Six, ShotIn, Holds, Represents, shortLists, refusalAt, answerOf, Left, Written, Unworked, Promise}
+use Rattle.stream.specs.Claim.{Call, lent, Run, call, past, Told, reportFor, listsFor, shows, Reported, HalfRight, SameHalf, Place, at, begins, Claim}
 
 ----------------------------------------------------------------------
 -- Lengths

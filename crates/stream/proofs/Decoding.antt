@@ -8,7 +8,7 @@ use native.Mathlib.Omega.{arith}
 use lib.ListN.{length}
 use borrow.Author.Tests.{lt-ltb, le-ltb}
 use Rattle.binary.proofs.Bits.{or-left, or-right}
-use Rattle.halves.specs.Report.{Shown, outcome}
+use Rattle.machine.specs.Report.{Shown, outcome}
 use Rattle.halves.specs.Decode.{HalfLists, Given, Shows}
 use Rattle.stream.specs.declared.Sizes.{Sizes}
 use Rattle.stream.specs.declared.State.{State}

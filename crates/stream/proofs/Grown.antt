@@ -57,20 +57,6 @@ grown-none s l e =
       flag = refl;
     }
 
-pub grown-loads : (s : Sizes) (xs zs : List Row) (st : State) (l : Lists) → Loads s xs zs st l → Grown s xs zs (st .rows) (st .clash) l
-grown-loads s xs zs st l h =
-    record {
-      range = h .range;
-      count = h .rows;
-      few = omega (arith, h .some-left);
-      x-few = h .x-few;
-      x-first = h .x-first;
-      good-xs = h .good-xs;
-      good-zs = h .good-zs;
-      flat = h .flat;
-      flag = h .clash;
-    }
-
 ----------------------------------------------------------------------
 -- The reply
 

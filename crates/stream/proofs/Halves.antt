@@ -12,11 +12,11 @@ use Rattle.binary.proofs.Bits.{never, and-in}
 use Rattle.code.specs.Lists.{rowsFrom, rowsBetween, Flat}
 use Rattle.code.specs.Tests.{Ascending}
 use Rattle.code.proofs.Flat.{flat-first, flat-second}
-use Rattle.halves.specs.declared.HalfReport.{HalfReport}
+use Rattle.machine.specs.declared.HalfReport.{HalfReport}
 use Rattle.halves.specs.declared.HalfAnswer.{HalfAnswer}
 use Rattle.halves.specs.declared.HalfAnswer.the-variants as half-answer
-use Rattle.halves.specs.Machine.{Half}
-use Rattle.halves.specs.Report.{outcome}
+use Rattle.machine.specs.Machine.{Half}
+use Rattle.machine.specs.Report.{outcome}
 use Rattle.halves.specs.Lists.{halfOf}
 use Rattle.halves.specs.Decode.{HalfLists, Given, fitting, Shows, SameLengths, Decodes}
 use Rattle.stream.specs.declared.Sizes.{Sizes}

@@ -6,7 +6,7 @@ use Rattle.binary.specs.Meaning.{Row}
 use Rattle.stream.specs.declared.Sizes.{Sizes}
 use Rattle.stream.specs.declared.Phase.the-variants.{Empty}
 use Rattle.stream.specs.declared.State.{State}
-use Rattle.stream.specs.History.{Code, Shot, History, empty, loading, ready, spoil, endShot}
+use Rattle.stream.specs.History.{History, empty, loading, ready, spoil, endShot}
 use Rattle.stream.specs.Promise.{Lists, ShotIn, Loads, Represents}
 
 abbrev pub droppedOf : State → State

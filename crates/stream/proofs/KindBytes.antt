@@ -1,17 +1,17 @@
 -- What a kind byte and a record's length make of its bytes. Assumes nothing.
-use mathlib.Core.Path.{_≡_, refl, sym, ap, _∙_, subst}
-use mathlib.Core.Bool.{Bool, true, false, _&&_, cond, and-false}
-use mathlib.Core.Option.{Option, none, some}
+use mathlib.Core.Path.{_≡_, refl, ap, _∙_}
+use mathlib.Core.Bool.{true, false, cond, and-false}
+use mathlib.Core.Option.{none, some}
 use mathlib.Core.List.{List}
-use Prim.Native.Nat.{ℕ, suc, _+_, _*_, _-_, _≤_, _<_}
+use Prim.Native.Nat.{ℕ, suc, _*_, _-_, _≤_, _<_}
 use native.Mathlib.Omega.{arith}
-use lib.Dec.{eqb, leb}
+use lib.Dec.{leb}
 use lib.ListN.{length, getD}
 use borrow.Author.Tests.{eq-eqb, ne-eqb, le-leb, lt-leb}
 use Rattle.binary.proofs.Bits.{never}
 use Rattle.stream.specs.declared.Shape.{Shape}
 use Rattle.stream.specs.declared.Shape.the-variants.{Unknown, Wrong, Size, Lose, Light, Decode}
-use Rattle.stream.specs.Records.{X, Z, Kind, sizes, lost, decode, lit, rowOf, between, bodyOf, kindOf, Record, unknown, wrong, read, readIf, recordOf}
+use Rattle.stream.specs.Records.{X, Z, sizes, lost, decode, lit, rowOf, between, kindOf, wrong, readIf, recordOf}
 use Rattle.stream.specs.Shapes.{kindAs, bodyIn, widthIn, unknown?, RecordAs}
 
 ----------------------------------------------------------------------

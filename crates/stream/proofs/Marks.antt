@@ -14,7 +14,7 @@ use lib.ListN.{length, getD, set}
 use lib.Seq.{getD-set-same, getD-set-other}
 use borrow.Author.Tests.{lt-ltb, eq-eqb, ne-eqb}
 use Rattle.binary.specs.Packed.{listed}
-use Rattle.halves.specs.Machine.{put}
+use Rattle.machine.specs.Machine.{put}
 use Rattle.halves.proofs.Seen.{ltb-yes, ltb-no}
 use Rattle.binary.proofs.WordBits.{order}
 use Rattle.stream.specs.ShotStep.{Cleared}

@@ -8,7 +8,7 @@ use native.Mathlib.Omega.{arith}
 use lib.ListN.{length, getD, set}
 use lib.Seq.{getD-set-other}
 use Rattle.binary.proofs.Bits.{never}
-use Rattle.halves.specs.Machine.{put}
+use Rattle.machine.specs.Machine.{put}
 use Rattle.stream.specs.declared.Sizes.{Sizes}
 use Rattle.stream.specs.declared.State.{State}
 use Rattle.stream.specs.Records.{Pauli, X, Z}

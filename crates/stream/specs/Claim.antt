@@ -6,25 +6,23 @@
 --   HalfRight  demands 2 and 3, of one half that a decode reports
 --   Claim      every call in every run from a fresh start is so, and any two reported decodes of one code and shot agree as demand 3 says
 use mathlib.Core.Path.{_≡_}
-use mathlib.Core.Bool.{Bool, true, false}
+use mathlib.Core.Bool.{true, false}
 use mathlib.Core.Logic.{_⊎_}
-use mathlib.Core.Option.{Option, none, some}
 use mathlib.Core.List.{List, [], _∷_, _++_}
-use Prim.Native.Nat.{ℕ, _≤_, _<_}
-use lib.ListN.{length, getD}
-use Rattle.halves.specs.declared.Word.the-variants.{None}
-use Rattle.halves.specs.declared.HalfReport.{HalfReport}
-use Rattle.halves.specs.Words.{finished?}
-use Rattle.halves.specs.Machine.{Half, isOpen}
-use Rattle.halves.specs.Report.{Shown}
-use Rattle.halves.specs.Demands.{Verdict, Fillings, Classes}
+use Prim.Native.Nat.{ℕ, _≤_}
+use Rattle.machine.specs.declared.Word.the-variants.{None}
+use Rattle.machine.specs.declared.HalfReport.{HalfReport}
+use Rattle.machine.specs.Words.{finished?}
+use Rattle.machine.specs.Machine.{Half, isOpen}
+use Rattle.machine.specs.Report.{Shown}
+use Rattle.machine.specs.Demands.{Verdict, Fillings, Classes}
 use Rattle.halves.specs.Decode.{HalfLists, seen}
 use Rattle.stream.specs.declared.Report.{Report}
 use Rattle.stream.specs.declared.Phase.the-variants.{Empty}
 use Rattle.stream.specs.declared.State.{State}
 use Rattle.stream.specs.declared.Answer.the-variants.{Decoded}
 use Rattle.stream.specs.declared.Reply.{Reply}
-use Rattle.stream.specs.Records.{Pauli, X, Z, Record, report, recordOf}
+use Rattle.stream.specs.Records.{Pauli, X, Z, report, recordOf}
 use Rattle.stream.specs.History.{Code, Shot, History, empty, ready, half}
 use Rattle.stream.specs.Table.{afterwards}
 use Rattle.stream.specs.Promise.{Lists, Six, Lent, refusalAt, answerOf, Left, Written, Unworked, Promise}

@@ -13,7 +13,7 @@ use lib.ListN.{length}
 use Rattle.binary.specs.Meaning.{All}
 use Rattle.code.specs.Lists.{rowsFrom}
 use Rattle.code.specs.Tests.{Ascending}
-use Rattle.halves.specs.Report.{Shown, outcome}
+use Rattle.machine.specs.Report.{Shown, outcome}
 use Rattle.halves.specs.Lists.{halfOf}
 use Rattle.halves.specs.Decode.{HalfLists, Given, fitting, Shows, SameLengths}
 use Rattle.stream.specs.declared.Sizes.{Sizes}

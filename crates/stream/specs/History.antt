@@ -9,7 +9,7 @@ use Prim.Native.Nat.{ℕ, _+_}
 use lib.Dec.{eqb}
 use lib.ListN.{length}
 use Rattle.binary.specs.Meaning.{Qubits, Row}
-use Rattle.halves.specs.Machine.{Half, put}
+use Rattle.machine.specs.Machine.{Half, put}
 use Rattle.stream.specs.declared.Sizes.{Sizes}
 use Rattle.stream.specs.Records.{Pauli, X, Z}
 

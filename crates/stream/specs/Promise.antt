@@ -7,22 +7,21 @@
 --   Written     what an answer leaves in the six lists
 --   Promise     the promise of `step`
 use mathlib.Core.Path.{_≡_}
-use mathlib.Core.Bool.{Bool, true, false, not, _&&_, _||_, cond}
+use mathlib.Core.Bool.{Bool, true, false, not, _&&_, _||_}
 use mathlib.Core.Logic.{_⊎_}
 use mathlib.Core.Option.{Option, none, some}
-use mathlib.Core.List.{List, [], _∷_, _++_}
+use mathlib.Core.List.{List, [], _++_}
 use Prim.Native.Nat.{ℕ, _+_, _≤_, _<_}
-use lib.Dec.{eqb, leb, ltb}
+use lib.Dec.{eqb, ltb}
 use lib.ListN.{length, getD, set}
 use Rattle.binary.specs.Meaning.{Row, All, commute?}
 use Rattle.binary.specs.Packed.{listed}
 use Rattle.code.specs.Lists.{startOf, Flat}
 use Rattle.code.specs.Push.{written}
 use Rattle.code.specs.Tests.{Ascending}
-use Rattle.halves.specs.Report.{outcome}
+use Rattle.machine.specs.Report.{outcome}
 use Rattle.halves.specs.Decode.{HalfLists, Shows, SameLengths}
 use Rattle.stream.specs.declared.Sizes.{Sizes}
-use Rattle.stream.specs.declared.Report.{Report}
 use Rattle.stream.specs.declared.Phase.the-variants.{Empty, Loading, Ready}
 use Rattle.stream.specs.declared.State.{State}
 use Rattle.stream.specs.declared.Refusal.{Refusal}

@@ -5,7 +5,7 @@
 --   bodyOf      the length of a kind's body
 --   Record      a record read: of no kind, not of its length, or a kind with the numbers of its body
 --   recordOf    the record that bytes are
-use mathlib.Core.Bool.{Bool, true, false, _&&_, cond}
+use mathlib.Core.Bool.{Bool, _&&_, cond}
 use mathlib.Core.Option.{Option, none, some}
 use mathlib.Core.List.{List, [], _∷_}
 use Prim.Native.Nat.{ℕ, zero, suc, _+_, _*_, _-_}

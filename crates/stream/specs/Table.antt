@@ -6,13 +6,12 @@
 --   takes          what a record that is carried out makes of code and shot
 use mathlib.Core.Bool.{Bool, true, false, not, _&&_, _||_, cond}
 use mathlib.Core.Option.{Option, none, some}
-use mathlib.Core.List.{List, [], _∷_, _++_}
-use Prim.Native.Nat.{ℕ, suc, _+_}
+use mathlib.Core.List.{List, [], _∷_}
+use Prim.Native.Nat.{ℕ}
 use lib.Dec.{eqb, leb, ltb}
 use lib.ListN.{length}
 use Rattle.binary.specs.Meaning.{Row, commute?}
 use Rattle.code.specs.Tests.{ascending?}
-use Rattle.stream.specs.declared.Sizes.{Sizes}
 use Rattle.stream.specs.declared.Refusal.{Refusal}
 use Rattle.stream.specs.declared.Refusal.the-variants.{Unknown, Length, Size, Place, Clash, Codeless, Range, Twice, Budget, Spoiled, Short}
 use Rattle.stream.specs.Records.{Pauli, X, Z, Record, unknown, wrong, size, row, lose, light, report}

@@ -8,13 +8,14 @@ mod states;
 
 ghost use mathlib.Core.Path.{_≡_};
 ghost use lib.ListN.{length};
+ghost use Rattle.stream.specs.Table.{refusalNumber};
 ghost use Rattle.stream.specs.Promise.{shortLists, Promise};
 ghost use Rattle.stream.specs.Loading.{held};
 ghost use Rattle.stream.specs.DecodeStep.{sixOf, lentOf};
 ghost use Rattle.stream.specs.Claim.{Fresh};
 use code::Qubit;
 use code::Row;
-use halves::HalfReport;
+use machine::HalfReport;
 
 // Why a record is refused (document 01, the table).
 pub enum Refusal {
@@ -86,6 +87,26 @@ enum Shape {
     Lose,
     Light(bool),
     Decode,
+}
+
+// The table's number of a refusal.
+pub fn refusal_number(r: Refusal) -> u8
+    ensures { λ n. ⌜ n ≡ refusalNumber r ⌝ }
+{
+    match r {
+        Refusal::Unknown => 1,
+        Refusal::Length => 2,
+        Refusal::Size => 3,
+        Refusal::Place => 4,
+        Refusal::Row => 5,
+        Refusal::Clash => 6,
+        Refusal::Codeless => 7,
+        Refusal::Range => 8,
+        Refusal::Twice => 9,
+        Refusal::Budget => 10,
+        Refusal::Spoiled => 11,
+        Refusal::Short => 12,
+    }
 }
 
 // At a fresh start there is no code and no shot.

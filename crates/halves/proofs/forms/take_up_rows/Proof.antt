@@ -2,7 +2,7 @@
 use mathlib.Core.Path.{_≡_}
 use Prim.Native.Nat.{_+_, _-_, _≤_}
 use borrow.Author.Needs.{needs}
-use Rattle.halves.specs.Machine.{isOpen, takeUpAll}
+use Rattle.machine.specs.Machine.{isOpen, takeUpAll}
 use Rattle.halves.specs.Lists.{view, withLive, checksFrom}
 use Rattle.halves.specs.Sides.{closedAt?}
 use Rattle.halves.proofs.FormRows.{Taking, taking-start, taking-turn, taking-failed, taking-end}

@@ -7,7 +7,7 @@ use denote.Ref.{now}
 use borrow.Author.Needs.{needs}
 use lib.ListN.{length, getD}
 use Rattle.halves.specs.declared.Choice.{Choice}
-use Rattle.halves.specs.Machine.{isOpen, most}
+use Rattle.machine.specs.Machine.{isOpen, most}
 use Rattle.halves.specs.Lists.{view, choiceOf}
 use Rattle.halves.specs.Scans.{betterOf, NamedBelow}
 use Rattle.halves.proofs.Choices.{named-below, below-more, choice-yes, choice-no}

@@ -5,7 +5,7 @@ use Prim.Native.Nat.{ℕ, _-_, _≤_}
 use native.Mathlib.Omega.{arith}
 use denote.Ref.{now}
 use borrow.Author.Needs.{needs}
-use Rattle.halves.specs.Report.{marked}
+use Rattle.machine.specs.Report.{marked}
 use Rattle.halves.specs.Lists.{view}
 use Rattle.halves.proofs.Scanning.{marked-yes, marked-no}
 use Rattle.halves.proofs.rows.count_marks.Statement.{statement}

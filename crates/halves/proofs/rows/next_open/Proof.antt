@@ -5,7 +5,7 @@ use native.Mathlib.Omega.{arith}
 use denote.Ref.{now}
 use borrow.Author.Needs.{needs}
 use lib.ListN.{length, drop}
-use Rattle.halves.specs.Machine.{isOpen, part}
+use Rattle.machine.specs.Machine.{isOpen, part}
 use Rattle.halves.specs.Lists.{view}
 use Rattle.halves.proofs.Scanning.{part-no}
 use Rattle.halves.proofs.rows.next_open.Statement.{statement}

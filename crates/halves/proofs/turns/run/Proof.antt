@@ -1,6 +1,5 @@
 -- `halves::turns::run` meets its contract. Assumes nothing.
 use native.Mathlib.Omega.{arith}
-use denote.Ref.{now}
 use borrow.Author.Needs.{needs}
 use Rattle.halves.proofs.Running.{some-open, Running, running-start, running-finished, running-stopped, running-spent, running-failed, running-on}
 use Rattle.halves.proofs.turns.run.Statement.{statement}

@@ -1,0 +1,11 @@
+pub mod Bench
+pub mod Values
+pub mod Settling
+pub mod TakingUp
+pub mod Runs
+pub mod Stages
+pub mod Guessing
+pub mod Budgets
+pub mod Counts
+pub mod Verdicts
+pub mod Demands

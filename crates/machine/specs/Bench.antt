@@ -1,0 +1,80 @@
+-- The bench shots P1 to P12 (document 01, "Bench shots"): one listed check on the meanings, of the X half.
+--   Bench       a row of the check: code, shot and limits, and what comes out: word, the four counts and the flips
+--   BenchLaw    each row comes out as listed
+use mathlib.Core.Path.{_≡_}
+use mathlib.Core.List.{List, [], _∷_, _++_, map}
+use Prim.Native.Nat.{ℕ, zero, suc}
+use Rattle.binary.specs.Meaning.{Qubits, Row, has}
+use Rattle.machine.specs.declared.Word.{Word}
+use Rattle.machine.specs.declared.Word.the-variants.{Certain, Unsure, None, Spent, Stopped}
+use Rattle.machine.specs.declared.HalfReport.{HalfReport}
+use Rattle.machine.specs.Machine.{Half, keepIf}
+use Rattle.machine.specs.Report.{outcome}
+
+pub record Bench : Type 0 where
+  pub half : Half
+  pub budget : ℕ
+  pub limit : ℕ
+  pub report : HalfReport
+  pub flips : List ℕ
+
+-- The qubits below n that lie in a set, ascending.
+abbrev pub members : ℕ → Qubits → List ℕ
+members zero s = []
+members (suc n) s = members n s ++ keepIf (s n) n []
+
+abbrev pub comes : Bench → HalfReport × List ℕ
+comes b = let s = outcome (b .half) (b .budget) (b .limit) in (s .report, members (b .half .size) (s .flip))
+
+abbrev pub listed : Bench → HalfReport × List ℕ
+listed b = (b .report, b .flips)
+
+abbrev said : Word → ℕ → ℕ → ℕ → ℕ → HalfReport
+said word fixed turns guesses live = record { word = word; fixed = fixed; turns = turns; guesses = guesses; live = live }
+
+-- The X half: its errors are found from the Z rows.
+abbrev xHalf : ℕ → List Row → List Row → List ℕ → List ℕ → Half
+xHalf n xs zs lost lit = record { size = n; rows = zs; others = xs; lost = has lost; lit = has lit }
+
+abbrev four : List Row
+four = (0 ∷ 1 ∷ 2 ∷ 3 ∷ []) ∷ []
+
+abbrev seven : List Row
+seven = (0 ∷ 2 ∷ 4 ∷ 6 ∷ []) ∷ (1 ∷ 2 ∷ 5 ∷ 6 ∷ []) ∷ (3 ∷ 4 ∷ 5 ∷ 6 ∷ []) ∷ []
+
+abbrev onFour : List ℕ → List ℕ → ℕ → ℕ → HalfReport → List ℕ → Bench
+onFour lost lit budget limit report flips =
+    record { half = xHalf 4 four four lost lit; budget = budget; limit = limit; report = report; flips = flips }
+
+abbrev onSeven : List ℕ → List ℕ → HalfReport → List ℕ → Bench
+onSeven lost lit report flips =
+    record { half = xHalf 7 seven seven lost lit; budget = 1; limit = 100; report = report; flips = flips }
+
+abbrev p12 : Bench
+p12 =
+    record {
+      half = xHalf 2 [] ((0 ∷ 1 ∷ []) ∷ (0 ∷ 1 ∷ []) ∷ []) (0 ∷ []) (0 ∷ []);
+      budget = 1;
+      limit = 100;
+      report = said None 0 1 0 0;
+      flips = [];
+    }
+
+unfoldable pub bench : List Bench
+bench =
+    onFour [] [] 0 100 (said Certain 0 0 0 0) []
+    ∷ onFour [] (0 ∷ []) 0 100 (said None 0 0 0 0) []
+    ∷ onFour (2 ∷ []) (0 ∷ []) 0 100 (said Certain 0 1 0 0) (2 ∷ [])
+    ∷ onFour (0 ∷ 1 ∷ []) (0 ∷ []) 1 100 (said Unsure 0 2 1 1) (1 ∷ [])
+    ∷ onFour (0 ∷ 1 ∷ []) (0 ∷ []) 0 100 (said Spent 0 0 0 0) []
+    ∷ onFour (0 ∷ 1 ∷ []) (0 ∷ []) 1 1 (said Stopped 0 1 1 1) []
+    ∷ onFour (0 ∷ 1 ∷ 2 ∷ 3 ∷ []) (0 ∷ []) 2 100 (said Unsure 1 3 2 2) (3 ∷ [])
+    ∷ onFour (0 ∷ 1 ∷ 2 ∷ 3 ∷ []) (0 ∷ []) 1 100 (said Spent 1 1 1 1) []
+    ∷ onSeven (0 ∷ 1 ∷ 2 ∷ []) (0 ∷ []) (said Unsure 0 3 1 1) (0 ∷ [])
+    ∷ onSeven (0 ∷ 2 ∷ 4 ∷ 6 ∷ []) (0 ∷ 1 ∷ 2 ∷ []) (said Certain 1 3 1 0) (6 ∷ [])
+    ∷ onSeven (0 ∷ 2 ∷ 4 ∷ 6 ∷ []) (0 ∷ []) (said Certain 1 3 1 0) (2 ∷ 4 ∷ 6 ∷ [])
+    ∷ p12
+    ∷ []
+
+unfoldable pub BenchLaw : Type 0
+BenchLaw = map comes bench ≡ map listed bench

@@ -1,0 +1,6 @@
+pub mod Words
+pub mod Machine
+pub mod Fillings
+pub mod Report
+pub mod Bench
+pub mod Demands

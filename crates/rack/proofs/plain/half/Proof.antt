@@ -1,0 +1,13 @@
+-- `rack::plain::half` meets its contract. Assumes nothing.
+use borrow.Author.Needs.{needs}
+use Rattle.rack.proofs.plain.half.Statement.{statement}
+use Rattle.rack.proofs.plain.half.Tie as tie
+
+word-number-requires : tie.Need-word-number-requires
+word-number-requires c κs = search needs
+
+returns : tie.Need-returns
+returns c = rw (c .word-number .ensures)
+
+pub half-spec : {M : Type 1} → statement M
+half-spec = tie.close (tie.spec word-number-requires returns)

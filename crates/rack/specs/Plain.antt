@@ -1,0 +1,104 @@
+-- States and replies as plain numbers (include/rack.h).
+--   stateOf      the state that a state's numbers stand for
+--   plainState   the numbers of a state
+--   plainReply   the numbers of a reply: the answer, the table's number of a refusal, word and counts of the halves of a report
+--   RackPromise  the promise of `rack_step`: that of `stream::step`, in plain numbers
+use mathlib.Core.Path.{_≡_}
+use mathlib.Core.Bool.{Bool, not, cond}
+use mathlib.Core.List.{List}
+use Prim.Native.Nat.{ℕ}
+use lib.Dec.{eqb}
+use Rattle.machine.specs.declared.Word.{Word}
+use Rattle.machine.specs.declared.Word.the-variants.{Certain, Unsure, None, Spent, Stopped}
+use Rattle.machine.specs.declared.HalfReport.{HalfReport}
+use Rattle.stream.specs.declared.Phase.{Phase}
+use Rattle.stream.specs.declared.Phase.the-variants.{Empty, Loading, Ready}
+use Rattle.stream.specs.declared.State.{State}
+use Rattle.stream.specs.declared.Answer.{Answer}
+use Rattle.stream.specs.declared.Answer.the-variants.{Refused, Taken, Complete, Decoded}
+use Rattle.stream.specs.declared.Reply.{Reply}
+use Rattle.stream.specs.Table.{refusalNumber}
+use Rattle.stream.specs.Promise.{Lent, Promise}
+use Rattle.rack.specs.declared.RackState.{RackState}
+use Rattle.rack.specs.declared.RackHalf.{RackHalf}
+use Rattle.rack.specs.declared.RackReply.{RackReply}
+
+----------------------------------------------------------------------
+-- States
+
+abbrev pub phaseNumber : Phase → ℕ
+phaseNumber Empty = 0
+phaseNumber Loading = 1
+phaseNumber Ready = 2
+
+-- Any other number is no code.
+abbrev pub phaseOf : ℕ → Phase
+phaseOf p = cond (eqb p 1) Loading (cond (eqb p 2) Ready Empty)
+
+abbrev pub flagNumber : Bool → ℕ
+flagNumber b = cond b 1 0
+
+abbrev pub flagOf : ℕ → Bool
+flagOf f = not (eqb f 0)
+
+abbrev pub stateOf : RackState → State
+stateOf s =
+    record {
+      phase = phaseOf (s .phase);
+      sizes = record { n = s .n; x = s .x; z = s .z };
+      rows = s .rows;
+      clash = flagOf (s .clash);
+      spoiled = flagOf (s .spoiled);
+      stale = flagOf (s .stale);
+    }
+
+abbrev pub plainState : State → RackState
+plainState s =
+    record {
+      phase = phaseNumber (s .phase);
+      clash = flagNumber (s .clash);
+      spoiled = flagNumber (s .spoiled);
+      stale = flagNumber (s .stale);
+      n = s .sizes .n;
+      x = s .sizes .x;
+      z = s .sizes .z;
+      rows = s .rows;
+    }
+
+----------------------------------------------------------------------
+-- Replies
+
+abbrev pub wordNumber : Word → ℕ
+wordNumber Certain = 1
+wordNumber Unsure = 2
+wordNumber None = 3
+wordNumber Spent = 4
+wordNumber Stopped = 5
+
+abbrev pub plainHalf : HalfReport → RackHalf
+plainHalf h = record { word = wordNumber (h .word); fixed = h .fixed; turns = h .turns; guesses = h .guesses; live = h .live }
+
+-- Of an answer that is no report.
+abbrev pub noHalf : RackHalf
+noHalf = record { word = 0; fixed = 0; turns = 0; guesses = 0; live = 0 }
+
+abbrev pub unreported : ℕ → ℕ → RackState → RackReply
+unreported answer refusal s = record { state = s; answer = answer; refusal = refusal; x = noHalf; z = noHalf }
+
+abbrev pub plainAnswer : Answer → RackState → RackReply
+plainAnswer Taken s = unreported 0 0 s
+plainAnswer (Complete sizes) s = unreported 1 0 s
+plainAnswer (Decoded r) s = record { state = s; answer = 2; refusal = 0; x = plainHalf (r .x); z = plainHalf (r .z) }
+plainAnswer (Refused why) s = unreported 3 (refusalNumber why) s
+
+abbrev pub plainReply : Reply → RackReply
+plainReply r = plainAnswer (r .answer) (plainState (r .state))
+
+----------------------------------------------------------------------
+-- The promise
+
+-- The numbers of a reply that `stream::step` promises at the state that the numbers given stand for.
+pub record RackPromise (s : RackState) (bytes : List ℕ) (old new : Lent) (r : RackReply) : Type 0 where
+  pub reply : Reply
+  pub promised : Promise (stateOf s) bytes old new reply
+  pub numbers : r ≡ plainReply reply

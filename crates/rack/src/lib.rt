@@ -1,0 +1,85 @@
+// The stream's call for a rack's own program in C or Rust (include/rack.h): state and reply as plain numbers.
+mod plain;
+
+ghost use Rattle.stream.specs.Loading.{held};
+ghost use Rattle.stream.specs.DecodeStep.{sixOf, lentOf};
+ghost use Rattle.stream.specs.Claim.{Fresh};
+ghost use Rattle.rack.specs.Plain.{stateOf, RackPromise};
+
+// What passes from call to call beside the lists: a fresh start's, or as the last reply has it.
+#[repr(C)]
+pub struct RackState {
+    pub phase: u8,
+    pub clash: u8,
+    pub spoiled: u8,
+    pub stale: u8,
+    pub n: u16,
+    pub x: u16,
+    pub z: u16,
+    pub rows: u16,
+}
+
+// What is reported of a half; of an answer that is no report, zeros.
+#[repr(C)]
+pub struct RackHalf {
+    pub word: u16,
+    pub fixed: u16,
+    pub turns: u16,
+    pub guesses: u16,
+    pub live: u16,
+}
+
+// What a call hands back: the state, the answer with the table's number of a refusal, and the halves of a report.
+#[repr(C)]
+pub struct RackReply {
+    pub state: RackState,
+    pub answer: u16,
+    pub refusal: u16,
+    pub x: RackHalf,
+    pub z: RackHalf,
+}
+
+// At a fresh start there is no code and no shot.
+#[no_mangle]
+pub extern "C" fn rack_fresh() -> RackState
+    ensures { λ r. ⌜ Fresh (stateOf r) ⌝ }
+{
+    plain::state(stream::fresh())
+}
+
+// One record: `stream::step` on the state that the numbers stand for.
+#[no_mangle]
+pub extern "C" fn rack_step(
+    state: RackState,
+    flat: &mut [u16],
+    ends: &mut [u16],
+    lost: &mut [u8],
+    lit: &mut [u8],
+    work: &mut [u64],
+    x_marks: &mut [u8],
+    x_forms: &mut [u64],
+    x_correction: &mut [u8],
+    z_marks: &mut [u8],
+    z_forms: &mut [u64],
+    z_correction: &mut [u8],
+    bytes: &[u8],
+) -> RackReply
+    ensures { λ r. ⌜ RackPromise state (now (bytes .entry)) (lentOf (held (now (flat .entry)) (now (ends .entry)) (now (lost .entry)) (now (lit .entry))) (now (work .entry)) (sixOf (now («x_marks» .entry)) (now («x_forms» .entry)) (now («x_correction» .entry)) (now («z_marks» .entry)) (now («z_forms» .entry)) (now («z_correction» .entry)))) (lentOf (held (now (flat .exit)) (now (ends .exit)) (now (lost .exit)) (now (lit .exit))) (now (work .exit)) (sixOf (now («x_marks» .exit)) (now («x_forms» .exit)) (now («x_correction» .exit)) (now («z_marks» .exit)) (now («z_forms» .exit)) (now («z_correction» .exit)))) r ⌝ }
+{
+    let reply = stream::step(
+        plain::state_of(state),
+        flat,
+        ends,
+        lost,
+        lit,
+        work,
+        x_marks,
+        x_forms,
+        x_correction,
+        z_marks,
+        z_forms,
+        z_correction,
+        bytes,
+    );
+    plain::reply(reply)
+}

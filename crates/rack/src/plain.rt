@@ -1,0 +1,154 @@
+// States and replies as plain numbers.
+use crate::RackHalf;
+use crate::RackReply;
+use crate::RackState;
+use machine::HalfReport;
+use machine::Word;
+use stream::Answer;
+use stream::Phase;
+use stream::Reply;
+use stream::Report;
+use stream::Sizes;
+use stream::State;
+ghost use mathlib.Core.Path.{_≡_};
+ghost use Rattle.rack.specs.Plain.{phaseOf, phaseNumber, stateOf, plainState, wordNumber, plainHalf, noHalf, unreported, plainAnswer, plainReply};
+
+// Any other number is no code: every value of a state is read as some state.
+fn phase_of(p: u8) -> Phase
+    ensures { λ r. ⌜ r ≡ phaseOf p ⌝ }
+{
+    if p == 1 {
+        return Phase::Loading;
+    }
+    if p == 2 {
+        return Phase::Ready;
+    }
+    Phase::Empty
+}
+
+fn phase_number(p: Phase) -> u8
+    ensures { λ r. ⌜ r ≡ phaseNumber p ⌝ }
+{
+    match p {
+        Phase::Empty => 0,
+        Phase::Loading => 1,
+        Phase::Ready => 2,
+    }
+}
+
+fn word_number(w: Word) -> u16
+    ensures { λ r. ⌜ r ≡ wordNumber w ⌝ }
+{
+    match w {
+        Word::Certain => 1,
+        Word::Unsure => 2,
+        Word::None => 3,
+        Word::Spent => 4,
+        Word::Stopped => 5,
+    }
+}
+
+// The state that the numbers stand for.
+pub fn state_of(s: RackState) -> State
+    ensures { λ r. ⌜ r ≡ stateOf s ⌝ }
+{
+    State {
+        phase: phase_of(s.phase),
+        sizes: Sizes {
+            n: s.n,
+            x: s.x,
+            z: s.z,
+        },
+        rows: s.rows,
+        clash: s.clash != 0,
+        spoiled: s.spoiled != 0,
+        stale: s.stale != 0,
+    }
+}
+
+pub fn state(s: State) -> RackState
+    ensures { λ r. ⌜ r ≡ plainState s ⌝ }
+{
+    let phase = s.phase;
+    let sizes = s.sizes;
+    RackState {
+        phase: phase_number(phase),
+        clash: s.clash as u8,
+        spoiled: s.spoiled as u8,
+        stale: s.stale as u8,
+        n: sizes.n,
+        x: sizes.x,
+        z: sizes.z,
+        rows: s.rows,
+    }
+}
+
+fn half(h: HalfReport) -> RackHalf
+    ensures { λ r. ⌜ r ≡ plainHalf h ⌝ }
+{
+    let word = h.word;
+    RackHalf {
+        word: word_number(word),
+        fixed: h.fixed,
+        turns: h.turns,
+        guesses: h.guesses,
+        live: h.live,
+    }
+}
+
+fn no_half() -> RackHalf
+    ensures { λ r. ⌜ r ≡ noHalf ⌝ }
+{
+    RackHalf {
+        word: 0,
+        fixed: 0,
+        turns: 0,
+        guesses: 0,
+        live: 0,
+    }
+}
+
+fn unreported(state: RackState, answer: u16, refusal: u16) -> RackReply
+    ensures { λ r. ⌜ r ≡ unreported answer refusal state ⌝ }
+{
+    RackReply {
+        state: state,
+        answer: answer,
+        refusal: refusal,
+        x: no_half(),
+        z: no_half(),
+    }
+}
+
+fn reported(state: RackState, r: Report) -> RackReply
+    ensures { λ p. ⌜ p ≡ plainAnswer (Answer.Decoded r) state ⌝ }
+{
+    let x = r.x;
+    let z = r.z;
+    RackReply {
+        state: state,
+        answer: 2,
+        refusal: 0,
+        x: half(x),
+        z: half(z),
+    }
+}
+
+fn answered(state: RackState, answer: Answer) -> RackReply
+    ensures { λ p. ⌜ p ≡ plainAnswer answer state ⌝ }
+{
+    match answer {
+        Answer::Taken => unreported(state, 0, 0),
+        Answer::Complete(_) => unreported(state, 1, 0),
+        Answer::Decoded(r) => reported(state, r),
+        Answer::Refused(why) => unreported(state, 3, stream::refusal_number(why) as u16),
+    }
+}
+
+pub fn reply(r: Reply) -> RackReply
+    ensures { λ p. ⌜ p ≡ plainReply r ⌝ }
+{
+    let after = r.state;
+    let answer = r.answer;
+    answered(state(after), answer)
+}
