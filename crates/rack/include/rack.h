@@ -5,7 +5,8 @@
  * of a decode may be others at every call.
  *
  * The caller owes: pointers that are not null, aligned for their elements and good for the length given; lists that do not overlap.
- * A list shorter than its least length gets refusal 12. Nothing is written past a list's end, and no refusal writes to a list.
+ * A list shorter than its least length gets refusal 12, and no refusal writes to a list. Over a state or lists that were altered between calls the
+ * answer means nothing, but every call returns and stays within the lists.
  */
 #ifndef RACK_H
 #define RACK_H

@@ -1,0 +1,36 @@
+//! Long streams of all families, refusals among them, compared with the model call by call.
+
+use crate::lengths::{Lengths, TIMES};
+use crate::session::{Draw, Session};
+use crate::{watch, Checked};
+use judge::families::Family;
+use judge::generate::{records, Mix};
+use judge::random::Random;
+
+/// Lists somewhat longer than they need to be.
+pub fn agrees(seed: u64, shots: usize) -> Checked {
+    let session = run(seed, shots, 1, Lengths::above)?;
+    session.caller.tally.all(11)
+}
+
+/// Lists some times their least length: what is past it stays.
+pub fn longer(seed: u64, shots: usize) -> Checked {
+    let session = run(seed, shots, TIMES, Lengths::longer)?;
+    session.caller.tally.all(11)
+}
+
+/// For each family a stream of its codes, and one of all codes with more trouble.
+fn run(seed: u64, shots: usize, times: usize, draw: Draw) -> Result<Session, String> {
+    let mut random = Random::new(seed);
+    let mut session = Session::new(random.word(), times);
+    let some = shots.div_ceil(2 * Family::ALL.len());
+    for family in Family::ALL {
+        for (trouble, family) in [(5, Some(family)), (25, None)] {
+            let stream = records(&mut random, some, Mix { trouble, wild: true, family });
+            watch::case();
+            session.restart();
+            session.calls(&stream, draw)?;
+        }
+    }
+    Ok(session)
+}

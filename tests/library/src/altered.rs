@@ -1,0 +1,80 @@
+//! Calls over altered lists and an altered state end, within their lists.
+
+use crate::alter;
+use crate::lengths::Lengths;
+use crate::rack::answer;
+use crate::session::Session;
+use crate::{watch, Checked};
+use judge::codes::{QUBITS, ROWS, WEIGHT};
+use judge::families::Family;
+use judge::generate::{records, Mix};
+use judge::half::Asked;
+use judge::judge::ensure;
+use judge::random::Random;
+use judge::records as made;
+use judge::stream::{Record, X_ROW, Z_ROW};
+
+const SMALL: [Family; 4] = [Family::Bench, Family::Pair, Family::Surface, Family::Joined];
+
+/// Streams with lists and state altered between calls, each followed by a fresh start that agrees
+/// with the model.
+pub fn altered(seed: u64, shots: usize) -> Checked {
+    let mut random = Random::new(seed);
+    let mut session = Session::new(random.word(), 1);
+    let mut decodes = 0;
+    for _ in 0..shots.div_ceil(20) {
+        watch::case();
+        session.restart();
+        decodes += run(&mut session, &mut random)?;
+        let mix = Mix { trouble: 5, wild: true, family: None };
+        session.begin();
+        session.calls(&records(&mut random, 2, mix), Lengths::above)?;
+    }
+    let tally = session.caller.tally;
+    ensure(decodes > 0 || !tally.enough(), || "no decode while altered".into())?;
+    Ok(format!("{tally}; {decodes} decodes while altered"))
+}
+
+/// A stream with lists or state altered and some records replaced; the number of decodes.
+fn run(session: &mut Session, random: &mut Random) -> Result<usize, String> {
+    let [lists, state, other] = random.pick(&[[20, 0, 0], [0, 20, 50], [10, 20, 80]]);
+    let mix = Mix { trouble: 5, wild: true, family: Some(random.pick(&SMALL)) };
+    let caller = &mut session.caller;
+    let mut decodes = 0;
+    for record in records(random, 4, mix) {
+        let record = if random.percent(other) { any_record(random) } else { record };
+        let ready = caller.state.phase == 2;
+        for (list, bytes) in caller.held.iter_mut().enumerate() {
+            if random.percent(if ready { lists } else { lists / 4 }) {
+                alter::list(random, list, bytes);
+            }
+        }
+        if random.percent(if ready { state } else { 4 * state }) {
+            caller.state = alter::state(random, caller.state);
+        }
+        let lengths = Lengths::above(random, QUBITS);
+        let short = random.percent(5).then(|| lengths.clone().shortened(random, QUBITS));
+        let reply = caller.call(&record, &short.unwrap_or(lengths))?;
+        decodes += usize::from(reply.answer == answer::DECODED);
+    }
+    Ok(decodes)
+}
+
+/// A record of a known kind with any numbers, or any bytes.
+fn any_record(random: &mut Random) -> Record {
+    let kind = random.pick(&[2, 3, 4]);
+    let row = random.pick(&[X_ROW, Z_ROW]);
+    match random.below(20) {
+        0 => made::sizes(number(random, QUBITS), number(random, ROWS), number(random, ROWS)),
+        1 => made::row(row, &random.subset(QUBITS, 1, WEIGHT)),
+        2 => (0..random.below(40)).map(|_| random.word() as u8).collect(),
+        3..=9 => made::number(kind, number(random, QUBITS)),
+        _ => made::decode(Asked { budget: number(random, 63), limit: number(random, 65_535) }),
+    }
+}
+
+/// A number up to `end`, often an end.
+fn number(random: &mut Random, end: usize) -> usize {
+    let any = random.within(0, end);
+    random.pick(&[0, 1, end - 1, end, any, any])
+}

@@ -1,0 +1,35 @@
+//! Codes as large as document 01 allows, compared with the model call by call.
+
+use crate::lengths::Lengths;
+use crate::session::Session;
+use crate::{watch, Checked};
+use judge::codes::{Code, QUBITS, ROWS, WEIGHT};
+use judge::known::{surface, toric};
+use judge::losses;
+use judge::random::Random;
+use judge::records;
+
+pub fn large(seed: u64, shots: usize) -> Checked {
+    let mut random = Random::new(seed);
+    let mut session = Session::new(random.word(), 1);
+    for code in [surface(32), toric(22), full()] {
+        let code = code.mixed(&mut random);
+        watch::case();
+        session.restart();
+        session.calls(&records::load(&code), Lengths::above)?;
+        for _ in 0..shots.div_ceil(200) {
+            let shot = losses::shot(&mut random, &code);
+            let asked = losses::asked(&mut random, shot.sets[0].count());
+            session.calls(&records::shot(&shot), Lengths::above)?;
+            session.calls(&[records::decode(asked)], Lengths::above)?;
+        }
+    }
+    Ok(session.caller.tally.to_string())
+}
+
+/// All rows that a code can have, each of the largest weight: they fill `flat` and `ends`.
+fn full() -> Code {
+    let block = |at: usize| (0..WEIGHT).map(|qubit| (at * WEIGHT + qubit) % QUBITS).collect();
+    let rows: Vec<_> = (0..ROWS).map(block).collect();
+    Code { n: QUBITS, x: rows.clone(), z: rows }
+}

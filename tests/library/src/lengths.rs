@@ -1,0 +1,84 @@
+//! How long each of the eleven lists is in a call.
+
+use crate::rack::LEAST;
+use judge::random::Random;
+use judge::stream::Lent;
+
+/// The lists in the order of a call: code and shot, work, and a decode's six.
+pub const NAMES: [&str; 11] = [
+    "flat",
+    "ends",
+    "lost",
+    "lit",
+    "work",
+    "x_marks",
+    "x_forms",
+    "x_correction",
+    "z_marks",
+    "z_forms",
+    "z_correction",
+];
+
+/// The bytes of an element.
+pub const WIDTHS: [usize; 11] = [2, 2, 1, 1, 8, 1, 8, 1, 1, 8, 1];
+
+/// So many lists hold code and shot; then comes the work list, then the six.
+pub const HELD: usize = 4;
+pub const WORK: usize = 4;
+pub const SIX: usize = 5;
+
+/// How many times its least length a list can have.
+pub const TIMES: usize = 4;
+
+/// The lists' lengths, in elements.
+#[derive(Clone)]
+pub struct Lengths(pub [usize; 11]);
+
+impl Lengths {
+    /// The least, the six lists with `n` elements.
+    pub fn least(n: usize) -> Lengths {
+        let mut lengths = [n; 11];
+        lengths[..SIX].copy_from_slice(&LEAST);
+        Lengths(lengths)
+    }
+
+    /// The least length or somewhat above it.
+    pub fn above(random: &mut Random, n: usize) -> Lengths {
+        Lengths(Lengths::least(n).0.map(|least| least + random.below(80).saturating_sub(40)))
+    }
+
+    /// Some times the least length.
+    pub fn longer(random: &mut Random, n: usize) -> Lengths {
+        Lengths(Lengths::least(n.max(1)).0.map(|least| least * random.within(2, TIMES)))
+    }
+
+    /// One list with another length.
+    pub fn with(mut self, list: usize, length: usize) -> Lengths {
+        self.0[list] = length;
+        self
+    }
+
+    /// One list or two below the least length.
+    pub fn shortened(mut self, random: &mut Random, n: usize) -> Lengths {
+        let least = Lengths::least(n.max(1)).0;
+        for _ in 0..random.within(1, 2) {
+            let list = random.below(NAMES.len());
+            let any = random.below(least[list]);
+            self.0[list] = random.pick(&[0, any, least[list] - 1]);
+        }
+        self
+    }
+
+    /// What the model is told of them.
+    pub fn lent(&self) -> Lent {
+        let short = self.0.iter().zip(LEAST).any(|(&length, least)| length < least);
+        Lent { short, room: *self.0[SIX..].iter().min().expect("six lists") }
+    }
+
+    /// Names the lists below their least length, for the trace.
+    pub fn short(&self, n: usize) -> String {
+        let least = Lengths::least(n).0;
+        let short = (0..NAMES.len()).filter(|&list| self.0[list] < least[list]);
+        short.map(|list| format!("  {}: {} elements", NAMES[list], self.0[list])).collect()
+    }
+}

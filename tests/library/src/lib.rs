@@ -1,0 +1,23 @@
+//! Tests of the static library from outside.
+
+pub mod agrees;
+pub mod alter;
+pub mod altered;
+pub mod bench;
+pub mod caller;
+pub mod checks;
+pub mod garbage;
+pub mod guard;
+pub mod large;
+pub mod larger;
+pub mod lengths;
+pub mod mirror;
+pub mod rack;
+pub mod report;
+pub mod session;
+pub mod short;
+pub mod tally;
+pub mod watch;
+
+/// What a check did, or why it failed.
+pub type Checked = Result<String, String>;

@@ -1,0 +1,122 @@
+//! What the model makes of each call: the reply, and the lists of code and shot by docs/LISTS.md.
+
+use crate::lengths::{Lengths, HELD};
+use crate::rack::{answer, Reply, State};
+use crate::report::half;
+use judge::half::Report;
+use judge::machine;
+use judge::shot::Decode;
+use judge::stream::{Answer, Model};
+use judge::wrong::Wrong;
+
+const FLAT: usize = 0;
+const ENDS: usize = 1;
+const LOST: usize = 2;
+const LIT: usize = 3;
+
+/// A decode that is carried out, and the reports of its halves.
+pub type Decoded = (Decode, [Report; 2]);
+
+pub struct Mirror {
+    model: Model,
+    /// The bytes of `flat`, `ends`, `lost` and `lit`.
+    pub held: [Vec<u8>; HELD],
+    /// The sizes announced and the rows taken so far.
+    code: State,
+    /// Whether `lost` and `lit` still hold an earlier shot.
+    stale: bool,
+}
+
+/// What the header says of a reply: of a state its phase, and the code where there is one.
+pub fn told(mut reply: Reply) -> Reply {
+    let State { phase, n, x, z, rows, .. } = reply.state;
+    let code = State { n, x, z, rows, ..State::default() };
+    reply.state = State { phase, ..if phase == 0 { State::default() } else { code } };
+    reply
+}
+
+impl Mirror {
+    /// A fresh start on these lists.
+    pub fn new(held: &[Vec<u8>; HELD]) -> Mirror {
+        let (model, held) = (Model::new(Wrong::Nothing), held.clone());
+        Mirror { model, held, code: State::default(), stale: true }
+    }
+
+    /// What a call hands back, and what a decode works on.
+    pub fn step(&mut self, record: &[u8], lengths: &Lengths) -> (Reply, Option<Decoded>) {
+        let mut reply = Reply::default();
+        let mut decoded = None;
+        match self.model.step(record, lengths.lent()) {
+            Answer::Refused { number, kind } => {
+                self.stale |= kind == 5 && !matches!(number, 2 | 7);
+                (reply.answer, reply.refusal) = (answer::REFUSED, number.into());
+            }
+            Answer::Taken => self.carry_out(record),
+            Answer::Complete(_) => {
+                self.carry_out(record);
+                reply.answer = answer::COMPLETE;
+            }
+            Answer::Decode(decode) => {
+                self.carry_out(record);
+                let reports = decode.halves().map(|half| machine::decode(&half, decode.asked));
+                reply.answer = answer::DECODED;
+                [reply.x, reply.z] = [half(&reports[0]), half(&reports[1])];
+                decoded = Some((decode, reports));
+            }
+        }
+        reply.state = State { phase: self.phase(), ..self.code };
+        (told(reply), decoded)
+    }
+
+    fn phase(&self) -> u8 {
+        match (self.model.code(), self.model.awaited()) {
+            (Some(_), _) => 2,
+            (None, Some(_)) => 1,
+            (None, None) => 0,
+        }
+    }
+
+    /// A record that is not refused. Lists hold numbers as records do, the low byte first.
+    fn carry_out(&mut self, record: &[u8]) {
+        let number = |at: usize| u16::from_le_bytes([record[at], record[at + 1]]);
+        match record[0] {
+            1 => {
+                let [n, x, z] = [1, 3, 5].map(number);
+                self.code = State { n, x, z, ..State::default() };
+                self.stale = true;
+            }
+            2 => self.begun()[LOST][usize::from(number(1))] = 1,
+            3 => {
+                let place = self.code.x + number(1);
+                self.begun()[LIT][usize::from(place)] = 1;
+            }
+            4 => self.begun()[LIT][usize::from(number(1))] = 1,
+            5 => {
+                self.begun();
+                self.stale = true;
+            }
+            _ => self.row(&record[1..]),
+        }
+    }
+
+    /// The lists with nothing of an earlier shot.
+    fn begun(&mut self) -> &mut [Vec<u8>; HELD] {
+        if self.stale {
+            self.held[LOST][..self.code.n.into()].fill(0);
+            self.held[LIT][..usize::from(self.code.x + self.code.z)].fill(0);
+            self.stale = false;
+        }
+        &mut self.held
+    }
+
+    /// The row after those before it.
+    fn row(&mut self, qubits: &[u8]) {
+        let at = 2 * usize::from(self.code.rows);
+        let ends = &mut self.held[ENDS];
+        let start = if at == 0 { 0 } else { u16::from_le_bytes([ends[at - 2], ends[at - 1]]) };
+        let end = start + qubits.len() as u16 / 2;
+        ends[at..at + 2].copy_from_slice(&end.to_le_bytes());
+        self.held[FLAT][2 * usize::from(start)..2 * usize::from(end)].copy_from_slice(qubits);
+        self.code.rows += 1;
+    }
+}

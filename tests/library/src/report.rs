@@ -1,0 +1,58 @@
+//! A half's report, in the header's numbers and in the judge's words.
+
+use crate::caller::Caller;
+use crate::lengths::{Lengths, SIX};
+use crate::rack::{answer, Half, Reply};
+use judge::half::{Counts, Report, Word};
+use judge::stream::Record;
+
+/// Word and counts as the header has them.
+pub fn half(report: &Report) -> Half {
+    let word = 1 + Word::ALL.iter().position(|&word| word == report.word).expect("a word");
+    let counts = report.counts;
+    let numbers = [word, counts.fixed, counts.turns, counts.guesses, counts.live];
+    let [word, fixed, turns, guesses, live] = numbers.map(|number| number as u16);
+    Half { word, fixed, turns, guesses, live }
+}
+
+/// The bytes of marks, forms and correction.
+pub fn lists(report: &Report) -> [Vec<u8>; 3] {
+    let forms = report.forms.iter().flat_map(|form| form.to_ne_bytes()).collect();
+    [report.marks.clone(), forms, report.correction.clone()]
+}
+
+/// A reply and what it reports of the two halves, if it decoded.
+pub type Outcome = (Reply, Option<[Report; 2]>);
+
+impl Caller {
+    /// Calls on lists somewhat longer than they need to be.
+    pub fn calls(&mut self, records: &[Record]) -> Result<Vec<Outcome>, String> {
+        let mut outcomes = Vec::new();
+        for record in records {
+            let needed = self.needed(record);
+            let lengths = Lengths::above(&mut self.random, needed);
+            let reply = self.call(record, &lengths)?;
+            outcomes.push((reply, self.reports(&reply)));
+        }
+        Ok(outcomes)
+    }
+
+    /// What the last call reports of its two halves, if it decoded.
+    pub fn reports(&self, reply: &Reply) -> Option<[Report; 2]> {
+        let n = usize::from(reply.state.n);
+        let read = |half: Half, first: usize| {
+            let [fixed, turns, guesses, live] =
+                [half.fixed, half.turns, half.guesses, half.live].map(usize::from);
+            let forms = self.after(first + 1)[..8 * n].chunks_exact(8);
+            Report {
+                word: Word::ALL[usize::from(half.word) - 1],
+                counts: Counts { fixed, turns, guesses, live },
+                marks: self.after(first)[..n].into(),
+                forms: forms.map(|form| u64::from_ne_bytes(form.try_into().expect("8"))).collect(),
+                correction: self.after(first + 2)[..n].into(),
+            }
+        };
+        let decoded = reply.answer == answer::DECODED;
+        decoded.then(|| [read(reply.x, SIX), read(reply.z, SIX + 3)])
+    }
+}

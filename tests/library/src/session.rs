@@ -1,0 +1,97 @@
+//! A caller with the model beside it: every call is compared and every report judged.
+
+use crate::caller::Caller;
+use crate::lengths::{Lengths, HELD, NAMES, SIX, WIDTHS, WORK};
+use crate::mirror::{told, Decoded, Mirror};
+use crate::rack::{Reply, LEAST};
+use crate::report;
+use judge::judge::{ensure, verdict, Judged};
+use judge::random::Random;
+use judge::stream::Record;
+
+pub struct Session {
+    pub caller: Caller,
+    mirror: Mirror,
+}
+
+/// Draws the lengths of a call that needs so many elements in the six lists.
+pub type Draw = fn(&mut Random, usize) -> Lengths;
+
+impl Session {
+    pub fn new(seed: u64, times: usize) -> Session {
+        let caller = Caller::new(seed, times);
+        let mirror = Mirror::new(&caller.held);
+        Session { caller, mirror }
+    }
+
+    /// A fresh start, with anything in the lists.
+    pub fn restart(&mut self) {
+        self.caller.restart();
+        self.mirror = Mirror::new(&self.caller.held);
+    }
+
+    /// A fresh start on the lists as they are.
+    pub fn begin(&mut self) {
+        self.caller.begin();
+        self.mirror = Mirror::new(&self.caller.held);
+    }
+
+    pub fn calls(&mut self, records: &[Record], draw: Draw) -> Judged {
+        records.iter().try_for_each(|record| {
+            let lengths = self.lengths(record, draw);
+            self.call(record, &lengths).map(drop)
+        })
+    }
+
+    pub fn lengths(&mut self, record: &[u8], draw: Draw) -> Lengths {
+        let needed = self.caller.needed(record);
+        draw(&mut self.caller.random, needed)
+    }
+
+    /// One call, equal to the model's in the reply and in each element of each list.
+    pub fn call(&mut self, record: &[u8], lengths: &Lengths) -> Result<Reply, String> {
+        let (expected, decoded) = self.mirror.step(record, lengths);
+        let reply = self.caller.call(record, lengths)?;
+        ensure(told(reply) == expected, || format!("{reply:?} should be {expected:?}"))?;
+        for list in 0..HELD {
+            same(list, 0, &self.mirror.held[list], &self.caller.held[list])?;
+        }
+        match decoded {
+            None => (WORK..NAMES.len()).try_for_each(|list| self.kept(list, 0))?,
+            Some(decoded) => self.decoded(&reply, &decoded)?,
+        }
+        Ok(reply)
+    }
+
+    /// The first n elements are the model's, those after them as they were, and the report stands.
+    fn decoded(&self, reply: &Reply, (decode, expected): &Decoded) -> Judged {
+        self.kept(WORK, LEAST[WORK])?;
+        let reports = self.caller.reports(reply).expect("a decode's reply");
+        for (which, half) in decode.halves().iter().enumerate() {
+            for (list, expected) in (SIX + 3 * which..).zip(report::lists(&expected[which])) {
+                same(list, 0, &expected, &self.caller.after(list)[..expected.len()])?;
+                self.kept(list, half.n)?;
+            }
+            let verdict = verdict(half);
+            verdict.judge(half, decode.asked, &reports[which].said())?;
+            verdict.lists(half, &reports[which])?;
+        }
+        Ok(())
+    }
+
+    /// Elements from `from` on are as they were.
+    fn kept(&self, list: usize, from: usize) -> Judged {
+        let rest = from * WIDTHS[list]..;
+        same(list, from, &self.caller.before(list)[rest.clone()], &self.caller.after(list)[rest])
+    }
+}
+
+/// Whether a list is as expected from element `from` on.
+fn same(list: usize, from: usize, expected: &[u8], actual: &[u8]) -> Judged {
+    ensure(expected == actual, || {
+        let pairs = expected.chunks(WIDTHS[list]).zip(actual.chunks(WIDTHS[list]));
+        let (at, (expected, actual)) =
+            pairs.enumerate().find(|(_, (expected, actual))| expected != actual).expect("as long");
+        format!("{}[{}] is {actual:?}, should be {expected:?}", NAMES[list], from + at)
+    })
+}

@@ -1,0 +1,88 @@
+//! How often each answer was met.
+
+use crate::rack::{answer, Reply};
+use crate::Checked;
+use judge::half::Word;
+use judge::judge::{ensure, Judged};
+use std::fmt::{self, Display, Formatter};
+
+const REFUSALS: usize = 12;
+
+#[derive(Default)]
+pub struct Tally {
+    calls: usize,
+    decodes: usize,
+    words: [usize; Word::ALL.len()],
+    refusals: [usize; REFUSALS],
+}
+
+impl Tally {
+    /// Counts a reply that the header allows.
+    pub fn add(&mut self, reply: &Reply) -> Judged {
+        ensure(allowed(reply), || format!("no reply is {reply:?}"))?;
+        self.calls += 1;
+        match reply.answer {
+            answer::DECODED => {
+                self.decodes += 1;
+                for half in [reply.x, reply.z] {
+                    self.words[usize::from(half.word) - 1] += 1;
+                }
+            }
+            answer::REFUSED => self.refusals[usize::from(reply.refusal) - 1] += 1,
+            _ => {}
+        }
+        Ok(())
+    }
+
+    /// Fails if many calls did not meet every word and the refusals up to a number.
+    pub fn all(&self, last: usize) -> Checked {
+        let met = self.words.iter().chain(&self.refusals[..last]).all(|&count| count > 0);
+        ensure(met || !self.enough(), || format!("not all was met: {self}"))?;
+        Ok(self.to_string())
+    }
+
+    /// Whether so many calls should meet everything.
+    pub fn enough(&self) -> bool {
+        self.calls >= 20_000
+    }
+
+    /// With another's calls.
+    pub fn and(mut self, other: &Tally) -> Tally {
+        let add = |sums: &mut [usize], counts: &[usize]| {
+            sums.iter_mut().zip(counts).for_each(|(sum, count)| *sum += count);
+        };
+        self.calls += other.calls;
+        self.decodes += other.decodes;
+        add(&mut self.words, &other.words);
+        add(&mut self.refusals, &other.refusals);
+        self
+    }
+}
+
+/// Whether answer, refusal, words and the state's parts have values of the header.
+fn allowed(reply: &Reply) -> bool {
+    let decoded = reply.answer == answer::DECODED;
+    let refused = reply.answer == answer::REFUSED;
+    let refusal = if refused { 1..=REFUSALS } else { 0..=0 };
+    let word = if decoded { 1..=Word::ALL.len() } else { 0..=0 };
+    let halves = [reply.x, reply.z]
+        .iter()
+        .all(|half| word.contains(&half.word.into()) && (decoded || *half == Default::default()));
+    let state = reply.state;
+    let flags = [state.clash, state.spoiled, state.stale].iter().all(|&flag| flag <= 1);
+    let answered = reply.answer <= answer::REFUSED && refusal.contains(&reply.refusal.into());
+    answered && halves && flags && state.phase <= 2
+}
+
+impl Display for Tally {
+    fn fmt(&self, to: &mut Formatter) -> fmt::Result {
+        write!(to, "{} calls, {} decodes", self.calls, self.decodes)?;
+        for (word, count) in Word::ALL.iter().zip(self.words) {
+            write!(to, ", {} {count}", word.name())?;
+        }
+        for (number, count) in (1..).zip(self.refusals).filter(|(_, count)| *count > 0) {
+            write!(to, ", refused {number} {count}")?;
+        }
+        Ok(())
+    }
+}
