@@ -26,6 +26,7 @@ fn phase_of(p: u8) -> Phase
     Phase::Empty
 }
 
+// 0 no code, 1 loading, 2 complete.
 fn phase_number(p: Phase) -> u8
     ensures { λ r. ⌜ r ≡ phaseNumber p ⌝ }
 {
@@ -36,6 +37,7 @@ fn phase_number(p: Phase) -> u8
     }
 }
 
+// A word's number; 0 is no word.
 fn word_number(w: Word) -> u16
     ensures { λ r. ⌜ r ≡ wordNumber w ⌝ }
 {
@@ -66,6 +68,7 @@ pub fn state_of(s: RackState) -> State
     }
 }
 
+// The numbers of a state.
 pub fn state(s: State) -> RackState
     ensures { λ r. ⌜ r ≡ plainState s ⌝ }
 {
@@ -83,6 +86,7 @@ pub fn state(s: State) -> RackState
     }
 }
 
+// The numbers of a half that is reported.
 fn half(h: HalfReport) -> RackHalf
     ensures { λ r. ⌜ r ≡ plainHalf h ⌝ }
 {
@@ -96,6 +100,7 @@ fn half(h: HalfReport) -> RackHalf
     }
 }
 
+// Of a half that is not reported.
 fn no_half() -> RackHalf
     ensures { λ r. ⌜ r ≡ noHalf ⌝ }
 {
@@ -108,6 +113,7 @@ fn no_half() -> RackHalf
     }
 }
 
+// An answer that is no report.
 fn unreported(state: RackState, answer: u16, refusal: u16) -> RackReply
     ensures { λ r. ⌜ r ≡ unreported answer refusal state ⌝ }
 {
@@ -120,6 +126,7 @@ fn unreported(state: RackState, answer: u16, refusal: u16) -> RackReply
     }
 }
 
+// An answer that is a report.
 fn reported(state: RackState, r: Report) -> RackReply
     ensures { λ p. ⌜ p ≡ plainAnswer (Answer.Decoded r) state ⌝ }
 {
@@ -134,6 +141,7 @@ fn reported(state: RackState, r: Report) -> RackReply
     }
 }
 
+// The answer beside the state: 0 taken, 1 complete, 2 decoded, 3 refused.
 fn answered(state: RackState, answer: Answer) -> RackReply
     ensures { λ p. ⌜ p ≡ plainAnswer answer state ⌝ }
 {
@@ -145,6 +153,7 @@ fn answered(state: RackState, answer: Answer) -> RackReply
     }
 }
 
+// The numbers of a reply.
 pub fn reply(r: Reply) -> RackReply
     ensures { λ p. ⌜ p ≡ plainReply r ⌝ }
 {
