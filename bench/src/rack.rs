@@ -20,10 +20,10 @@ fn three() -> Three<'static> {
 
 impl Rack {
     pub fn new() -> Rack {
-        let [flat, ends, lost, lit, work] = LEAST;
-        let (flat, ends, lost) = (list(flat), list(ends), list(lost));
-        let (lit, work) = (list(lit), list(work));
-        Rack { state: fresh(), lent: Lent { flat, ends, lost, lit, work, x: three(), z: three() } }
+        let [flat, ends, shot, work] = LEAST;
+        let (flat, ends) = (list(flat), list(ends));
+        let (shot, work) = (list(shot), list(work));
+        Rack { state: fresh(), lent: Lent { flat, ends, shot, work, x: three(), z: three() } }
     }
 
     pub fn take(&mut self, record: &[u8]) -> Reply {

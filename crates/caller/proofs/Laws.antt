@@ -1,21 +1,23 @@
 -- Two calls in a row from a fresh start are a run, so the claim tells the second.
-use mathlib.Core.Path.{_≡_, refl, sym, _∙_, fun-ext}
+use mathlib.Core.Path.{_≡_, refl, sym, ap, _∙_, fun-ext}
 use mathlib.Core.Bool.{true}
 use mathlib.Core.Option.{Option, none, some}
 use mathlib.Core.List.{List, [], _∷_}
 use Prim.Native.Nat.{ℕ}
 use Rattle.binary.proofs.Bits.{never}
-use Rattle.stream.specs.declared.Report.{Report}
-use Rattle.stream.specs.declared.State.{State}
-use Rattle.stream.specs.declared.Refusal.{Refusal}
-use Rattle.stream.specs.declared.Answer.the-variants.{Decoded}
-use Rattle.stream.specs.declared.Reply.{Reply}
-use Rattle.stream.specs.Records.{Record, unknown, wrong, size, row, lose, light, report, recordOf}
-use Rattle.stream.specs.History.{History, empty, loading, ready}
-use Rattle.stream.specs.Table.{takes}
-use Rattle.stream.specs.Promise.{Lent, shortSix, completed, answerOf, KeptLengths, Promise}
-use Rattle.stream.specs.Claim.{Call, ended, call, Fresh, past, Place}
-use Rattle.stream.proofs.Claim.{claim}
+use Rattle.records.specs.declared.Report.{Report}
+use Rattle.records.specs.declared.State.{State}
+use Rattle.records.specs.declared.Refusal.{Refusal}
+use Rattle.records.specs.declared.Answer.the-variants.{Decoded}
+use Rattle.records.specs.declared.Reply.{Reply}
+use Rattle.records.specs.Records.{Record, unknown, wrong, size, row, add, report, recordOf}
+use Rattle.records.specs.History.{History, empty, loading, ready}
+use Rattle.records.specs.Table.{takes}
+use Rattle.records.specs.Lists.{Lent, shortSix}
+use Rattle.records.specs.Promise.{completed, answerOf, KeptLengths, Promise}
+use Rattle.records.specs.States.{freshState}
+use Rattle.claim.specs.Calls.{Step, step, ended, call, past, Place}
+use Rattle.claim.proofs.Claim.{claim}
 use Rattle.caller.specs.TwoRecords.{shortsOf, refusalOf, afterFirst, answerToSecond, Decode, TwoRecords}
 
 -- A call leaves the six lists as short as they were.
@@ -38,8 +40,7 @@ decode-of none unknown a d e = never {b = true} refl cc
 decode-of none wrong a d e = never {b = true} refl cc
 decode-of none (size n x z) a d e = absurd (no-report (takes (size n x z) a) d e)
 decode-of none (row p r) a d e = absurd (no-report (takes (row p r) a) d e)
-decode-of none (lose q) a d e = never {b = true} refl cc
-decode-of none (light p r) a d e = never {b = true} refl cc
+decode-of none (add u k) a d e = never {b = true} refl cc
 decode-of none (report budget limit) empty d e = never {b = true} refl cc
 decode-of none (report budget limit) (loading s xs zs) d e = never {b = true} refl cc
 decode-of none (report budget limit) (ready c s) d e = record { code = c; shot = s; budget = budget; limit = limit; held = refl; asked = refl }
@@ -47,13 +48,13 @@ decode-of none (report budget limit) (ready c s) d e = record { code = c; shot =
 ----------------------------------------------------------------------
 -- The two calls
 
-pub two-records : (st : State) (first second : List ℕ) (l₀ l₁ l₂ : Lent) (r₁ r₂ : Reply) → Fresh st → Promise st first l₀ l₁ r₁
+pub two-records : (st : State) (first second : List ℕ) (l₀ l₁ l₂ : Lent) (r₁ r₂ : Reply) → st ≡ freshState → Promise st first l₀ l₁ r₁
     → Promise (r₁ .state) second l₁ l₂ r₂ → TwoRecords first second l₀ l₂ r₂
 unfolding past
 two-records st first second l₀ l₁ l₂ r₁ r₂ h p₁ p₂ =
-    let k₁ : Call = record { bytes = first; work = l₀ .work; six = l₀ .six; reply = r₁; left = l₁ } in
-    let k₂ : Call = record { bytes = second; work = l₁ .work; six = l₁ .six; reply = r₂; left = l₂ } in
-    let place : Place k₂ = record { state = st; lists = l₀ .lists; fresh = h; before = k₁ ∷ []; after = []; run = call p₁ (call p₂ ended) } in
+    let k₁ : Step = record { bytes = first; work = l₀ .work; six = l₀ .six; reply = r₁; left = l₁ } in
+    let k₂ : Step = record { bytes = second; work = l₁ .work; six = l₁ .six; reply = r₂; left = l₂ } in
+    let place : Place (step k₂) = record { state = st; lists = l₀ .lists; fresh = ap (λ (x : State). x .phase) h; before = step k₁ ∷ []; after = []; run = call p₁ (call p₂ ended) } in
     let answer : r₂ .answer ≡ answerToSecond (shortsOf l₀) first second = rw (p₁ .lengths .work, six-same l₀ l₁ (p₁ .lengths)) at (claim .told k₂ place .answer) in
     let a : History = afterFirst (shortsOf l₀) first in
     record {

@@ -10,17 +10,18 @@ use mathlib.Core.Option.{Option}
 use mathlib.Core.List.{List}
 use Prim.Native.Nat.{ℕ}
 use lib.ListN.{length}
-use Rattle.halves.specs.Decode.{seen}
-use Rattle.stream.specs.declared.Report.{Report}
-use Rattle.stream.specs.declared.Refusal.{Refusal}
-use Rattle.stream.specs.declared.Answer.{Answer}
-use Rattle.stream.specs.declared.Answer.the-variants.{Decoded}
-use Rattle.stream.specs.declared.Reply.{Reply}
-use Rattle.stream.specs.Records.{Pauli, Record, report, recordOf}
-use Rattle.stream.specs.History.{Code, Shot, History, empty, ready, half}
-use Rattle.stream.specs.Table.{refusal, afterwards}
-use Rattle.stream.specs.Promise.{Six, Lent, shortLists, shortSix, answerOf}
-use Rattle.stream.specs.Claim.{reportFor, listsFor, HalfRight}
+use Rattle.machine.specs.Lists.{seen}
+use Rattle.records.specs.declared.Report.{Report}
+use Rattle.records.specs.declared.Refusal.{Refusal}
+use Rattle.records.specs.declared.Answer.{Answer}
+use Rattle.records.specs.declared.Answer.the-variants.{Decoded}
+use Rattle.records.specs.declared.Reply.{Reply}
+use Rattle.records.specs.Records.{Pauli, Record, report, recordOf}
+use Rattle.records.specs.History.{Code, Shot, History, empty, ready, half}
+use Rattle.records.specs.Table.{refusal, afterwards}
+use Rattle.records.specs.Lists.{Six, Lent, shortLists, shortSix}
+use Rattle.records.specs.Promise.{answerOf}
+use Rattle.claim.specs.Claim.{reportFor, listsFor, HalfRight}
 
 -- A list of code, shot or work; one of the six lists of a decode of n qubits.
 pub record Shorts : Type 0 where

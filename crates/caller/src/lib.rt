@@ -1,15 +1,13 @@
 // A caller of the stream in another crate: it goes by the stream's one claim about whole lists of calls.
-ghost use Rattle.stream.specs.Loading.{held};
-ghost use Rattle.stream.specs.DecodeStep.{sixOf, lentOf};
+ghost use Rattle.records.specs.Lists.{held, sixOf, lentOf};
 ghost use Rattle.caller.specs.TwoRecords.{TwoRecords};
-use stream::Reply;
+use records::Reply;
 
 // Two records from a fresh start, with the same lists lent to both calls; the reply to the second.
 pub fn two_records(
     flat: &mut [u16],
     ends: &mut [u16],
-    lost: &mut [u8],
-    lit: &mut [u8],
+    shot: &mut [u8],
     work: &mut [u64],
     x_marks: &mut [u8],
     x_forms: &mut [u64],
@@ -20,15 +18,14 @@ pub fn two_records(
     first: &[u8],
     second: &[u8],
 ) -> Reply
-    ensures { λ r. ⌜ TwoRecords (now (first .entry)) (now (second .entry)) (lentOf (held (now (flat .entry)) (now (ends .entry)) (now (lost .entry)) (now (lit .entry))) (now (work .entry)) (sixOf (now («x_marks» .entry)) (now («x_forms» .entry)) (now («x_correction» .entry)) (now («z_marks» .entry)) (now («z_forms» .entry)) (now («z_correction» .entry)))) (lentOf (held (now (flat .exit)) (now (ends .exit)) (now (lost .exit)) (now (lit .exit))) (now (work .exit)) (sixOf (now («x_marks» .exit)) (now («x_forms» .exit)) (now («x_correction» .exit)) (now («z_marks» .exit)) (now («z_forms» .exit)) (now («z_correction» .exit)))) r ⌝ }
+    ensures { λ r. ⌜ TwoRecords (now (first .entry)) (now (second .entry)) (lentOf (held (now (flat .entry)) (now (ends .entry)) (now (shot .entry))) (now (work .entry)) (sixOf (now («x_marks» .entry)) (now («x_forms» .entry)) (now («x_correction» .entry)) (now («z_marks» .entry)) (now («z_forms» .entry)) (now («z_correction» .entry)))) (lentOf (held (now (flat .exit)) (now (ends .exit)) (now (shot .exit))) (now (work .exit)) (sixOf (now («x_marks» .exit)) (now («x_forms» .exit)) (now («x_correction» .exit)) (now («z_marks» .exit)) (now («z_forms» .exit)) (now («z_correction» .exit)))) r ⌝ }
 {
-    let start = stream::fresh();
+    let start = records::fresh();
     let to_first = stream::step(
         start,
         flat,
         ends,
-        lost,
-        lit,
+        shot,
         work,
         x_marks,
         x_forms,
@@ -43,8 +40,7 @@ pub fn two_records(
         state,
         flat,
         ends,
-        lost,
-        lit,
+        shot,
         work,
         x_marks,
         x_forms,

@@ -15,7 +15,8 @@ use Rattle.code.specs.Tests.{Ascending}
 use Rattle.halves.specs.declared.Choice.{Choice}
 use Rattle.halves.specs.declared.Choice.the-variants.{NoQubit, Named}
 use Rattle.machine.specs.Machine.{isOpen, better, most, degree}
-use Rattle.halves.specs.Lists.{view, choiceOf, checksFrom}
+use Rattle.machine.specs.Lists.{view}
+use Rattle.halves.specs.Lists.{choiceOf, checksFrom}
 use Rattle.halves.specs.Scans.{CountedRows, betterOf, NamedBelow}
 
 -- The rule names a qubit below n.

@@ -11,7 +11,7 @@ use Rattle.machine.specs.declared.HalfReport.{HalfReport}
 use Rattle.halves.specs.declared.Ended.{Ended}
 use Rattle.machine.specs.Words.{finished?}
 use Rattle.machine.specs.Report.{marked, none?}
-use Rattle.halves.specs.Lists.{view}
+use Rattle.machine.specs.Lists.{view}
 use Rattle.halves.specs.Scans.{Filled}
 use Rattle.halves.specs.Starts.{reportBy, Finished}
 

@@ -13,7 +13,8 @@ use Rattle.code.specs.Lists.{rowAt}
 use Rattle.halves.specs.declared.Taken.{Taken}
 use Rattle.halves.specs.declared.Taken.the-variants.{Failed, Live}
 use Rattle.machine.specs.Machine.{Form, Forms, isOpen, part, empty?, bind, takeUp, takeIf, takeUpAll}
-use Rattle.halves.specs.Lists.{view, withLive, checkAt, checksFrom, Topped, TakenAs, TookUp}
+use Rattle.machine.specs.Lists.{view}
+use Rattle.halves.specs.Lists.{withLive, checkAt, checksFrom, Topped, TakenAs, TookUp}
 use Rattle.halves.specs.Sides.{check, closedAt?, takeIfClosed}
 
 ----------------------------------------------------------------------

@@ -18,7 +18,8 @@ use Rattle.binary.specs.Packed.{bit}
 use Rattle.binary.proofs.Bits.{⊕-false, ⊕-assoc, &&-false, never}
 use Rattle.halves.specs.declared.Taken.the-variants.{Failed, Live}
 use Rattle.machine.specs.Machine.{Form, side, newest, without, replace, takeAt, takeUp, oneLess}
-use Rattle.halves.specs.Lists.{view, formsOf, withLive, Topped, TookUp}
+use Rattle.machine.specs.Lists.{view, formsOf}
+use Rattle.halves.specs.Lists.{withLive, Topped, TookUp}
 use Rattle.halves.specs.Sides.{check, IsSide, Newest, Replaced}
 use Rattle.machine.proofs.Settling.{side-top}
 use Rattle.machine.proofs.TakingUp.{newest-is, without-below, without-above}

@@ -20,8 +20,8 @@ use Rattle.machine.specs.Words.{finished?}
 use Rattle.machine.specs.Machine.{Form, End, decoded}
 use Rattle.machine.specs.Fillings.{filling}
 use Rattle.machine.specs.Report.{marked, none?, report, shown}
-use Rattle.halves.specs.Lists.{view}
-use Rattle.halves.specs.Decode.{HalfLists, digit, Shows, Given, fitting, Decodes}
+use Rattle.machine.specs.Lists.{view, HalfLists, digit, Shows}
+use Rattle.halves.specs.Decode.{Given, fitting, Decodes}
 use Rattle.halves.specs.Turns.{RowLists, Qubitwise, EndedAs}
 use Rattle.halves.specs.Starts.{halfIn, HalfRun, reportBy, Finished, fits?, HalfDone}
 use Rattle.machine.proofs.Values.{value-off}
@@ -141,6 +141,7 @@ module _ (g : Given) (work : List ℕ) (old : HalfLists) (told : Bool)
         lengths = record { marks = refl; forms = refl; correction = refl };
         work-long = refl;
         refused = λ i. (refl, refl, refl);
+        answered = λ i. never i (fitting-is g (length work) old ∙ sym tells ∙ e);
         decoded = λ i. never i (fitting-is g (length work) old ∙ sym tells ∙ e);
       }
 
@@ -152,5 +153,6 @@ module _ (g : Given) (work : List ℕ) (old : HalfLists) (told : Bool)
         lengths = v .lengths;
         work-long = long;
         refused = λ i. never (fitting-is g (length work) old ∙ sym tells ∙ e) i;
+        answered = λ i f. let z : _≡_ {A = ℕ} 0 1 = cc in omega arith;
         decoded = λ i own good. let z = v .shows own good in (ap Decoded (z .0), z .1);
       }

@@ -19,7 +19,8 @@ use Rattle.halves.specs.declared.Taken.{Taken}
 use Rattle.halves.specs.declared.Taken.the-variants.{Failed, Live}
 use Rattle.halves.specs.declared.Ended.{Ended}
 use Rattle.machine.specs.Machine.{Stage, on, failed, isOpen, closed?, takeUpAll, blank, stage, startMark, start, degree, most, run, Half, readings, checks, decoded}
-use Rattle.halves.specs.Lists.{view, checksFrom, stateOf, Topped}
+use Rattle.machine.specs.Lists.{view}
+use Rattle.halves.specs.Lists.{checksFrom, stateOf, Topped}
 use Rattle.halves.specs.Scans.{CountedRows}
 use Rattle.halves.specs.Turns.{RowLists, rowChecks, Qubitwise, Kept, StageAs, mostBy, EndedAs, runFrom}
 use Rattle.halves.specs.Starts.{Started, halfIn, HalfRun}

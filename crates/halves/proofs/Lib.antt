@@ -1,4 +1,3 @@
-pub mod Seen
 pub mod FormBits
 pub mod FormWords
 pub mod FormRows

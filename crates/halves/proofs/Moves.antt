@@ -21,7 +21,8 @@ use Rattle.halves.specs.declared.Ended.{Ended}
 use Rattle.machine.specs.declared.Word.the-variants.{Certain, Unsure}
 use Rattle.machine.specs.Words.{finished}
 use Rattle.machine.specs.Machine.{isOpen, dangling}
-use Rattle.halves.specs.Lists.{view, checkAt, DanglingAs, choiceOf}
+use Rattle.machine.specs.Lists.{view}
+use Rattle.halves.specs.Lists.{checkAt, DanglingAs, choiceOf}
 use Rattle.halves.specs.Scans.{FoundDangling}
 use Rattle.halves.specs.Turns.{RowLists, rowChecks, Qubitwise, Turned, peelBy, guessBy, turnBy, mostBy, Moved}
 use Rattle.machine.proofs.Settling.{part-open}

@@ -22,7 +22,8 @@ use Rattle.halves.specs.declared.Ended.{Ended}
 use Rattle.machine.specs.Words.{finished}
 use Rattle.machine.specs.Machine.{State, Stage, on, failed, End, isOpen, noneOpen, before, turn, run}
 use Rattle.machine.specs.Report.{marked}
-use Rattle.halves.specs.Lists.{view, stateOf, Topped}
+use Rattle.machine.specs.Lists.{view}
+use Rattle.halves.specs.Lists.{stateOf, Topped}
 use Rattle.halves.specs.Turns.{RowLists, rowChecks, Qubitwise, StageAs, Kept, Turned, turnBy, mostBy, spent?, Moved, EndedAs, runFrom}
 use Rattle.machine.proofs.Runs.{Unsaid}
 use Rattle.machine.proofs.Guessing.{most-rule}

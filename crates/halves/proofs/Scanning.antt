@@ -19,7 +19,8 @@ use Rattle.halves.specs.declared.Open.the-variants.{Closed, One, More}
 use Rattle.halves.specs.declared.Dangling.the-variants.{NoRow, At}
 use Rattle.machine.specs.Machine.{isOpen, keepIf, part, empty?, only, orElse, dangling}
 use Rattle.machine.specs.Report.{marked}
-use Rattle.halves.specs.Lists.{view, checkAt, checksFrom, openOf}
+use Rattle.machine.specs.Lists.{view}
+use Rattle.halves.specs.Lists.{checkAt, checksFrom, openOf}
 use Rattle.halves.specs.Scans.{OpenFrom, FoundDangling}
 
 ----------------------------------------------------------------------

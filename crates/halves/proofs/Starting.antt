@@ -22,7 +22,8 @@ use Rattle.code.specs.Tests.{Ascending}
 use Rattle.code.proofs.Order.{rows-below}
 use Rattle.halves.specs.declared.Taken.{Taken}
 use Rattle.machine.specs.Machine.{Form, Forms, isOpen, closed?, takeUpAll, blank, stage, startMark}
-use Rattle.halves.specs.Lists.{view, formsOf, withLive, Topped, TakenAs, TookUp}
+use Rattle.machine.specs.Lists.{view, formsOf}
+use Rattle.halves.specs.Lists.{withLive, Topped, TakenAs, TookUp}
 use Rattle.halves.specs.Sides.{closedAt?}
 use Rattle.halves.specs.Scans.{Filled, openMark}
 use Rattle.halves.specs.Turns.{RowLists, rowChecks, StageAs}

@@ -10,6 +10,7 @@ use lib.Dec.{eqb, ltb}
 use lib.ListN.{length, getD, set}
 use lib.Seq.{getD-set-same, getD-set-other}
 use lib.ListN.{length-set}
+use borrow.Author.Tests.{lt-ltb}
 use Rattle.binary.specs.Meaning.{Qubits, Row, Check, has}
 use Rattle.binary.specs.Packed.{bit}
 use Rattle.binary.proofs.Bits.{bit as cases, never, eqb-eq, eq-eqb, eqb-differ, or-out, iff-eq}
@@ -17,12 +18,12 @@ use Rattle.binary.proofs.WordBits.{bit-pow, one-shl}
 use Rattle.code.specs.Lists.{rowAt}
 use Rattle.halves.specs.declared.Taken.{Taken}
 use Rattle.machine.specs.Machine.{Form, Forms, put, isOpen, part, empty?, closed?, closing, side, takeUpAll, stage, settle}
-use Rattle.halves.specs.Lists.{view, formsOf, withLive, stateOf, Topped, TakenAs, TookUp}
+use Rattle.machine.specs.Lists.{view, formsOf}
+use Rattle.halves.specs.Lists.{withLive, stateOf, Topped, TakenAs, TookUp}
 use Rattle.halves.specs.Sides.{check, IsSide, closedAt?}
 use Rattle.halves.specs.Turns.{RowLists, rowChecks, Qubitwise, StageAs, Turned, ToppedWord, settleBy, peelBy, guessBy}
 use Rattle.machine.proofs.Settling.{side-top}
 use Rattle.machine.proofs.Stages.{open-put}
-use Rattle.halves.proofs.Seen.{ltb-yes}
 
 ----------------------------------------------------------------------
 -- An element stored
@@ -31,7 +32,7 @@ pub view-set : (n : ℕ) (l : List ℕ) (p v : ℕ) → p < n → p < length l �
 view-set n l p v i j = fun-ext λ q. cases (eqb p q) (λ e. rw e (at q (eqb-eq p q e))) (λ e. rw e (off q e))
   where
     at : (q : ℕ) → p ≡ q → view n (set l p v) q ≡ v
-    at q e = subst (λ (x : ℕ). view n (set l p v) x ≡ v) e (rw (ltb-yes p n i) (getD-set-same l p v 0 j))
+    at q e = subst (λ (x : ℕ). view n (set l p v) x ≡ v) e (rw (lt-ltb p n i) (getD-set-same l p v 0 j))
 
     off : (q : ℕ) → eqb p q ≡ false → view n (set l p v) q ≡ view n l q
     off q e = ap (λ (x : ℕ). cond (ltb q n) x 0) (getD-set-other l p q v 0 (λ k. never (subst (λ (x : ℕ). eqb p x ≡ true) (sym k) (eq-eqb p)) e))

@@ -1,6 +1,4 @@
 -- The machine's state as the lent lists hold it, and what the functions of a turn hand back.
---   view        a list read as a function of the qubits below n, and 0 elsewhere
---   formsOf     the forms that a list of 64-bit words holds: bit k of a form is bit k of its word
 --   stateOf     marks and forms as lists, with the live guesses and the turns made
 --   checksFrom  the rows of the flat list from a row on, with their readings
 --   halfOf      the half of which the lists hold the code and the shot
@@ -8,14 +6,14 @@
 --   Topped      no form has a bit above the live guesses
 --   TookUp      what taking up rows leaves in the list of forms
 use mathlib.Core.Path.{_≡_}
-use mathlib.Core.Bool.{false, _&&_, cond}
+use mathlib.Core.Bool.{false, _&&_}
 use mathlib.Core.Option.{Option, none, some}
 use mathlib.Core.List.{List, [], _∷_}
 use Prim.Native.Nat.{ℕ, zero, suc, _+_, _≤_, _<_}
 use lib.Dec.{eqb, ltb}
 use lib.ListN.{length, getD}
 use Rattle.binary.specs.Meaning.{Check}
-use Rattle.binary.specs.Packed.{bit, listed}
+use Rattle.binary.specs.Packed.{listed}
 use Rattle.code.specs.Lists.{rowAt, rowsFrom}
 use Rattle.halves.specs.declared.Open.{Open}
 use Rattle.halves.specs.declared.Open.the-variants.{Closed, One, More}
@@ -25,16 +23,11 @@ use Rattle.halves.specs.declared.Choice.{Choice}
 use Rattle.halves.specs.declared.Choice.the-variants.{NoQubit, Named}
 use Rattle.halves.specs.declared.Taken.{Taken}
 use Rattle.halves.specs.declared.Taken.the-variants.{Failed, Live}
-use Rattle.machine.specs.Machine.{Form, Forms, State, Half}
+use Rattle.machine.specs.Machine.{Forms, State, Half}
+use Rattle.machine.specs.Lists.{view, formsOf}
 
 ----------------------------------------------------------------------
 -- Lists read
-
-abbrev pub view : ℕ → List ℕ → ℕ → ℕ
-view n l q = cond (ltb q n) (getD l q 0) 0
-
-abbrev pub formsOf : ℕ → List ℕ → ℕ → Form
-formsOf n forms q k = bit (view n forms q) k
 
 abbrev pub withLive : ℕ → List ℕ → ℕ → Forms
 withLive n forms live = record { form = formsOf n forms; live = live }

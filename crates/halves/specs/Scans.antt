@@ -26,7 +26,8 @@ use Rattle.halves.specs.declared.Dangling.the-variants.{At}
 use Rattle.halves.specs.declared.Choice.{Choice}
 use Rattle.halves.specs.declared.Choice.the-variants.{NoQubit, Named}
 use Rattle.machine.specs.Machine.{isOpen, part, dangling, degree}
-use Rattle.halves.specs.Lists.{view, checkAt, checksFrom, DanglingAs}
+use Rattle.machine.specs.Lists.{view}
+use Rattle.halves.specs.Lists.{checkAt, checksFrom, DanglingAs}
 
 ----------------------------------------------------------------------
 -- Rows

@@ -14,7 +14,8 @@ use lib.ListN.{length, getD}
 use Rattle.binary.specs.Meaning.{Qubits, Row, Check, has}
 use Rattle.binary.specs.Packed.{bit}
 use Rattle.machine.specs.Machine.{Forms, side, replace, isOpen, closed?, takeIf}
-use Rattle.halves.specs.Lists.{view, withLive}
+use Rattle.machine.specs.Lists.{view}
+use Rattle.halves.specs.Lists.{withLive}
 
 abbrev pub check : Bool → Row → Check
 check lit row = record { lit = lit; row = row }

@@ -23,9 +23,9 @@ use Rattle.halves.specs.declared.Ended.{Ended}
 use Rattle.machine.specs.Machine.{isOpen, closed?, takeUpAll, blank, stage, startMark, Half, decoded}
 use Rattle.machine.specs.Words.{finished?}
 use Rattle.machine.specs.Report.{marked, none?, outcome}
-use Rattle.halves.specs.Lists.{view, halfOf}
+use Rattle.machine.specs.Lists.{view, HalfLists, Shows, SameLengths}
+use Rattle.halves.specs.Lists.{halfOf}
 use Rattle.halves.specs.Scans.{Filled}
-use Rattle.halves.specs.Decode.{HalfLists, SameLengths, Shows}
 use Rattle.halves.specs.Turns.{RowLists, rowChecks, Qubitwise, Kept, StageAs, EndedAs}
 
 pub record PackedFrom (n : ℕ) (flat ends : List ℕ) (other others : ℕ) (work work′ : List ℕ) : Type 0 where

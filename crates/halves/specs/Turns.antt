@@ -21,7 +21,8 @@ use Rattle.halves.specs.declared.Move.the-variants.{Spent, Made}
 use Rattle.halves.specs.declared.Ended.{Ended}
 use Rattle.machine.specs.Machine.{State, Stage, on, failed, End, put, isOpen, dangling, some?, most, settle, peel, guess, turn, run}
 use Rattle.machine.specs.Report.{none?}
-use Rattle.halves.specs.Lists.{view, formsOf, stateOf, checkAt, checksFrom, Topped}
+use Rattle.machine.specs.Lists.{view, formsOf}
+use Rattle.halves.specs.Lists.{stateOf, checkAt, checksFrom, Topped}
 
 pub record RowLists : Type 0 where
   pub flat : List ℕ

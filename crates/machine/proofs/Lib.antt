@@ -9,3 +9,4 @@ pub mod Budgets
 pub mod Counts
 pub mod Verdicts
 pub mod Demands
+pub mod Seen

@@ -1,7 +1,7 @@
 /* The loss decoder for a rack's own program, in C. Link with librack.a.
  *
- * One call takes one record (README.md has the table of records) and hands back the state and the answer. State, `flat`, `ends`, `lost` and `lit`
- * pass from call to call as the last call left them, also where it refused; nobody else writes them in between. The work list and the six lists
+ * One call takes one record (README.md has the table of records) and hands back the state and the answer. State, `flat`, `ends` and `shot` pass
+ * from call to call as the last call left them, also where it refused; nobody else writes them in between. The work list and the six lists
  * of a decode may be others at every call.
  *
  * The caller owes: pointers that are not null, aligned for their elements and good for the length given; lists that do not overlap.
@@ -22,8 +22,7 @@ extern "C" {
 enum {
     RACK_FLAT = 16384,
     RACK_ENDS = 1024,
-    RACK_LOST = 1024,
-    RACK_LIT = 1024,
+    RACK_SHOT = 2048,
     RACK_WORK = 8192,
     RACK_QUBITS = 1024
 };
@@ -79,8 +78,7 @@ struct rack_reply rack_step(
     struct rack_state state,
     uint16_t *flat, size_t flat_length,
     uint16_t *ends, size_t ends_length,
-    uint8_t *lost, size_t lost_length,
-    uint8_t *lit, size_t lit_length,
+    uint8_t *shot, size_t shot_length,
     uint64_t *work, size_t work_length,
     uint8_t *x_marks, size_t x_marks_length,
     uint64_t *x_forms, size_t x_forms_length,
@@ -94,7 +92,7 @@ struct rack_reply rack_step(
 struct rack {
     uint64_t work[RACK_WORK], x_forms[RACK_QUBITS], z_forms[RACK_QUBITS];
     uint16_t flat[RACK_FLAT], ends[RACK_ENDS];
-    uint8_t lost[RACK_LOST], lit[RACK_LIT];
+    uint8_t shot[RACK_SHOT];
     uint8_t x_marks[RACK_QUBITS], x_correction[RACK_QUBITS], z_marks[RACK_QUBITS], z_correction[RACK_QUBITS];
     struct rack_state state;
 };
@@ -105,7 +103,7 @@ static inline void rack_start(struct rack *r) {
 
 static inline struct rack_reply rack_take(struct rack *r, const uint8_t *bytes, size_t length) {
     struct rack_reply reply = rack_step(
-        r->state, r->flat, RACK_FLAT, r->ends, RACK_ENDS, r->lost, RACK_LOST, r->lit, RACK_LIT, r->work, RACK_WORK,
+        r->state, r->flat, RACK_FLAT, r->ends, RACK_ENDS, r->shot, RACK_SHOT, r->work, RACK_WORK,
         r->x_marks, RACK_QUBITS, r->x_forms, RACK_QUBITS, r->x_correction, RACK_QUBITS,
         r->z_marks, RACK_QUBITS, r->z_forms, RACK_QUBITS, r->z_correction, RACK_QUBITS,
         bytes, length);

@@ -4,11 +4,12 @@ use mathlib.Core.Bool.{Bool, true, false}
 use mathlib.Core.List.{List}
 use Prim.Native.Nat.{ℕ}
 use mir.Val.{boolByte}
-use Rattle.stream.specs.declared.Phase.{Phase}
-use Rattle.stream.specs.declared.Phase.the-variants.{Empty, Loading, Ready}
-use Rattle.stream.specs.declared.State.{State}
-use Rattle.stream.specs.declared.Reply.{Reply}
-use Rattle.stream.specs.Promise.{Lent, Promise}
+use Rattle.records.specs.declared.Phase.{Phase}
+use Rattle.records.specs.declared.Phase.the-variants.{Empty, Loading, Ready}
+use Rattle.records.specs.declared.State.{State}
+use Rattle.records.specs.declared.Reply.{Reply}
+use Rattle.records.specs.Lists.{Lent}
+use Rattle.records.specs.Promise.{Promise}
 use Rattle.rack.specs.declared.RackState.{RackState}
 use Rattle.rack.specs.declared.RackReply.{RackReply}
 use Rattle.rack.specs.Plain.{phaseNumber, phaseOf, flagNumber, flagOf, stateOf, plainState, plainReply, RackPromise}

@@ -2,15 +2,15 @@
 use mathlib.Core.Path.{_≡_, refl, _∙_, ap}
 use mathlib.Core.List.{List, [], _∷_}
 use Prim.Native.Nat.{ℕ}
-use Rattle.stream.specs.declared.Answer.{Answer}
-use Rattle.stream.specs.declared.Answer.the-variants.{Refused, Taken, Complete, Decoded}
-use Rattle.stream.specs.Promise.{Lists, Lent}
-use Rattle.stream.specs.Claim.{Call}
-use Rattle.stream.specs.Claim as claim
+use Rattle.records.specs.declared.Answer.{Answer}
+use Rattle.records.specs.declared.Answer.the-variants.{Refused, Taken, Complete, Decoded}
+use Rattle.records.specs.Lists.{Lists, Lent}
+use Rattle.claim.specs.Calls.{Step, step}
+use Rattle.claim.specs.Calls as calls
 use Rattle.rack.specs.declared.RackState.{RackState}
 use Rattle.rack.specs.declared.RackReply.{RackReply}
 use Rattle.rack.specs.Plain.{stateOf, plainAnswer, RackPromise}
-use Rattle.rack.specs.Runs.{RackCall, plainCall, RackRun, ended, call, StreamRun}
+use Rattle.rack.specs.Runs.{RackCall, rack-step, plainCall, RackKeeps, rackStateLeft, rackListsLeft, RackRun, ended, call, StreamRun}
 use Rattle.rack.proofs.Numbers.{state-back}
 
 -- The state handed back is the stream's.
@@ -24,19 +24,21 @@ next-state : {s : RackState} {bytes : List ℕ} {old new : Lent} {r : RackReply}
 next-state p =
     ap (λ (r : RackReply). stateOf (r .state)) (p .numbers) ∙ ap stateOf (answer-state (p .reply .answer) _) ∙ state-back (p .reply .state)
 
-one-more : {s : RackState} {l : Lists} {k : RackCall} {ks : List RackCall}
-    → RackPromise s (k .bytes) (record { lists = l; work = k .work; six = k .six }) (k .left) (k .reply)
-    → StreamRun (k .reply .state) (k .left .lists) ks → StreamRun s l (k ∷ ks)
-one-more {k = k} {ks = ks} p rest =
-    let k′ : Call = record { bytes = k .bytes; work = k .work; six = k .six; reply = p .reply; left = k .left } in
+one-more : (s : RackState) (l : Lists) (k : RackCall) (ks : List RackCall) → RackKeeps s l k → StreamRun (rackStateLeft s k) (rackListsLeft l k) ks
+    → StreamRun s l (k ∷ ks)
+one-more s l (rack-step k) ks p rest =
+    let k′ : Step = record { bytes = k .bytes; work = k .work; six = k .six; reply = p .reply; left = k .left } in
     record {
-      calls = k′ ∷ rest .calls;
-      run = claim.call {k = k′} (p .promised) (rw (next-state p) at (rest .run));
+      calls = step k′ ∷ rest .calls;
+      run = calls.call {k = step k′} (p .promised) (rw (next-state p) at (rest .run));
       numbers =
-          ap (λ (r : RackReply). record { bytes = k .bytes; work = k .work; six = k .six; reply = r; left = k .left } ∷ ks) (p .numbers)
-          ∙ ap (λ (xs : List RackCall). plainCall k′ ∷ xs) (rest .numbers);
+          ap (λ (r : RackReply). rack-step (record { bytes = k .bytes; work = k .work; six = k .six; reply = r; left = k .left }) ∷ ks) (p .numbers)
+          ∙ ap (λ (xs : List RackCall). plainCall (step k′) ∷ xs) (rest .numbers);
     }
 
+run-of : (s : RackState) (l : Lists) (ks : List RackCall) → RackRun s l ks → StreamRun s l ks
+run-of s l [] ended = record { calls = []; run = calls.ended; numbers = refl }
+run-of s l (k ∷ ks) (call p later) = one-more s l k ks p (run-of (rackStateLeft s k) (rackListsLeft l k) ks later)
+
 pub rack-run : {s : RackState} {l : Lists} {ks : List RackCall} → RackRun s l ks → StreamRun s l ks
-rack-run ended = record { calls = []; run = claim.ended; numbers = refl }
-rack-run (call p later) = one-more p (rack-run later)
+rack-run {s} {l} {ks} run = run-of s l ks run

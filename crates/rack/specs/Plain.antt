@@ -11,14 +11,15 @@ use lib.Dec.{eqb}
 use Rattle.machine.specs.declared.Word.{Word}
 use Rattle.machine.specs.declared.Word.the-variants.{Certain, Unsure, None, Spent, Stopped}
 use Rattle.machine.specs.declared.HalfReport.{HalfReport}
-use Rattle.stream.specs.declared.Phase.{Phase}
-use Rattle.stream.specs.declared.Phase.the-variants.{Empty, Loading, Ready}
-use Rattle.stream.specs.declared.State.{State}
-use Rattle.stream.specs.declared.Answer.{Answer}
-use Rattle.stream.specs.declared.Answer.the-variants.{Refused, Taken, Complete, Decoded}
-use Rattle.stream.specs.declared.Reply.{Reply}
-use Rattle.stream.specs.Table.{refusalNumber}
-use Rattle.stream.specs.Promise.{Lent, Promise}
+use Rattle.records.specs.declared.Phase.{Phase}
+use Rattle.records.specs.declared.Phase.the-variants.{Empty, Loading, Ready}
+use Rattle.records.specs.declared.State.{State}
+use Rattle.records.specs.declared.Answer.{Answer}
+use Rattle.records.specs.declared.Answer.the-variants.{Refused, Taken, Complete, Decoded}
+use Rattle.records.specs.declared.Reply.{Reply}
+use Rattle.records.specs.Table.{refusalNumber}
+use Rattle.records.specs.Lists.{Lent}
+use Rattle.records.specs.Promise.{Promise}
 use Rattle.rack.specs.declared.RackState.{RackState}
 use Rattle.rack.specs.declared.RackHalf.{RackHalf}
 use Rattle.rack.specs.declared.RackReply.{RackReply}

@@ -1,10 +1,10 @@
 // The stream's call for a rack's own program in C or Rust (include/rack.h): state and reply as plain numbers.
 mod plain;
 
-ghost use Rattle.stream.specs.Loading.{held};
-ghost use Rattle.stream.specs.DecodeStep.{sixOf, lentOf};
-ghost use Rattle.stream.specs.Claim.{Fresh};
-ghost use Rattle.rack.specs.Plain.{stateOf, RackPromise};
+ghost use mathlib.Core.Path.{_≡_};
+ghost use Rattle.records.specs.Lists.{held, sixOf, lentOf};
+ghost use Rattle.records.specs.States.{freshState};
+ghost use Rattle.rack.specs.Plain.{plainState, RackPromise};
 
 // What passes from call to call beside the lists: a fresh start's, or as the last reply has it.
 #[repr(C)]
@@ -42,9 +42,9 @@ pub struct RackReply {
 // At a fresh start there is no code and no shot.
 #[no_mangle]
 pub extern "C" fn rack_fresh() -> RackState
-    ensures { λ r. ⌜ Fresh (stateOf r) ⌝ }
+    ensures { λ r. ⌜ r ≡ plainState freshState ⌝ }
 {
-    plain::state(stream::fresh())
+    plain::state(records::fresh())
 }
 
 // One record: `stream::step` on the state that the numbers stand for.
@@ -53,8 +53,7 @@ pub extern "C" fn rack_step(
     state: RackState,
     flat: &mut [u16],
     ends: &mut [u16],
-    lost: &mut [u8],
-    lit: &mut [u8],
+    shot: &mut [u8],
     work: &mut [u64],
     x_marks: &mut [u8],
     x_forms: &mut [u64],
@@ -64,14 +63,13 @@ pub extern "C" fn rack_step(
     z_correction: &mut [u8],
     bytes: &[u8],
 ) -> RackReply
-    ensures { λ r. ⌜ RackPromise state (now (bytes .entry)) (lentOf (held (now (flat .entry)) (now (ends .entry)) (now (lost .entry)) (now (lit .entry))) (now (work .entry)) (sixOf (now («x_marks» .entry)) (now («x_forms» .entry)) (now («x_correction» .entry)) (now («z_marks» .entry)) (now («z_forms» .entry)) (now («z_correction» .entry)))) (lentOf (held (now (flat .exit)) (now (ends .exit)) (now (lost .exit)) (now (lit .exit))) (now (work .exit)) (sixOf (now («x_marks» .exit)) (now («x_forms» .exit)) (now («x_correction» .exit)) (now («z_marks» .exit)) (now («z_forms» .exit)) (now («z_correction» .exit)))) r ⌝ }
+    ensures { λ r. ⌜ RackPromise state (now (bytes .entry)) (lentOf (held (now (flat .entry)) (now (ends .entry)) (now (shot .entry))) (now (work .entry)) (sixOf (now («x_marks» .entry)) (now («x_forms» .entry)) (now («x_correction» .entry)) (now («z_marks» .entry)) (now («z_forms» .entry)) (now («z_correction» .entry)))) (lentOf (held (now (flat .exit)) (now (ends .exit)) (now (shot .exit))) (now (work .exit)) (sixOf (now («x_marks» .exit)) (now («x_forms» .exit)) (now («x_correction» .exit)) (now («z_marks» .exit)) (now («z_forms» .exit)) (now («z_correction» .exit)))) r ⌝ }
 {
     let reply = stream::step(
         plain::state_of(state),
         flat,
         ends,
-        lost,
-        lit,
+        shot,
         work,
         x_marks,
         x_forms,

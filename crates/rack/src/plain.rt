@@ -4,12 +4,12 @@ use crate::RackReply;
 use crate::RackState;
 use machine::HalfReport;
 use machine::Word;
-use stream::Answer;
-use stream::Phase;
-use stream::Reply;
-use stream::Report;
-use stream::Sizes;
-use stream::State;
+use records::Answer;
+use records::Phase;
+use records::Reply;
+use records::Report;
+use records::Sizes;
+use records::State;
 ghost use mathlib.Core.Path.{_≡_};
 ghost use Rattle.rack.specs.Plain.{phaseOf, phaseNumber, stateOf, plainState, wordNumber, plainHalf, noHalf, unreported, plainAnswer, plainReply};
 
@@ -149,7 +149,7 @@ fn answered(state: RackState, answer: Answer) -> RackReply
         Answer::Taken => unreported(state, 0, 0),
         Answer::Complete(_) => unreported(state, 1, 0),
         Answer::Decoded(r) => reported(state, r),
-        Answer::Refused(why) => unreported(state, 3, stream::refusal_number(why) as u16),
+        Answer::Refused(why) => unreported(state, 3, records::refusal_number(why) as u16),
     }
 }
 

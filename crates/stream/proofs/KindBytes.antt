@@ -11,7 +11,7 @@ use borrow.Author.Tests.{eq-eqb, ne-eqb, le-leb, lt-leb}
 use Rattle.binary.proofs.Bits.{never}
 use Rattle.stream.specs.declared.Shape.{Shape}
 use Rattle.stream.specs.declared.Shape.the-variants.{Unknown, Wrong, Size, Lose, Light, Decode}
-use Rattle.stream.specs.Records.{X, Z, sizes, lost, decode, lit, rowOf, between, kindOf, wrong, readIf, recordOf}
+use Rattle.records.specs.Records.{X, Z, lost, lit, sizes, decode, rowOf, member, between, kindOf, wrong, readIf, recordOf}
 use Rattle.stream.specs.Shapes.{kindAs, bodyIn, widthIn, unknown?, RecordAs}
 
 ----------------------------------------------------------------------
@@ -21,15 +21,15 @@ pub kind-size : (b : ℕ) → b ≡ 1 → kindOf b ≡ some sizes
 unfolding kindOf
 kind-size b e = rw e
 
-pub kind-lost : (b : ℕ) → b ≡ 2 → kindOf b ≡ some lost
+pub kind-lost : (b : ℕ) → b ≡ 2 → kindOf b ≡ some (member lost)
 unfolding kindOf
 kind-lost b e = rw e
 
-pub kind-lit-z : (b : ℕ) → b ≡ 3 → kindOf b ≡ some (lit Z)
+pub kind-lit-z : (b : ℕ) → b ≡ 3 → kindOf b ≡ some (member (lit Z))
 unfolding kindOf
 kind-lit-z b e = rw e
 
-pub kind-lit-x : (b : ℕ) → b ≡ 4 → kindOf b ≡ some (lit X)
+pub kind-lit-x : (b : ℕ) → b ≡ 4 → kindOf b ≡ some (member (lit X))
 unfolding kindOf
 kind-lit-x b e = rw e
 

@@ -7,7 +7,7 @@ use native.Mathlib.Numerals.{add-one}
 use native.Mathlib.Omega.{arith}
 use lib.ListN.{length, take, set}
 use lib.Seq.{take-suc-set}
-use Rattle.stream.specs.Records.{number, numbers}
+use Rattle.records.specs.Records.{number, numbers}
 
 pub numbers-length : (bytes : List ℕ) (i w : ℕ) → length (numbers bytes i w) ≡ w
 numbers-length bytes i zero = refl

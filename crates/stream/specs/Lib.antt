@@ -1,10 +1,2 @@
-pub mod Records
-pub mod History
-pub mod Table
-pub mod Promise
-pub mod Claim
-pub mod Steps
-pub mod Loading
-pub mod ShotStep
-pub mod DecodeStep
 pub mod Shapes
+pub mod Takes

@@ -2,7 +2,7 @@
 --   kindAs      the kind that an answer means
 --   bodyIn      the length of a record of a kind, its kind byte counted
 --   widthIn     how many qubits a row has
---   unknown?    whether no kind was named
+--   unknown?    whether no kind was named; decode?: whether it is that of a decode
 --   RecordAs    the bytes are this record, of this length
 use mathlib.Core.Path.{_≡_}
 use mathlib.Core.Bool.{Bool, true, false}
@@ -12,16 +12,15 @@ use Prim.Native.Nat.{ℕ, _+_, _*_, _≤_}
 use lib.ListN.{length, getD}
 use Rattle.stream.specs.declared.Shape.{Shape}
 use Rattle.stream.specs.declared.Shape.the-variants.{Unknown, Wrong, Size, Lose, Light, Decode}
-use Rattle.stream.specs.Records.{Kind, sizes, lost, decode, lit, rowOf, unknown, wrong, size, row, lose, light, report, number, numbers, recordOf}
-use Rattle.stream.specs.Loading.{pauli}
+use Rattle.records.specs.Records.{pauli, lost, lit, Kind, sizes, decode, rowOf, member, unknown, wrong, size, row, add, report, number, numbers, recordOf}
 
 abbrev pub kindAs : Shape → Option Kind
 kindAs Unknown = none
 kindAs Wrong = none
 kindAs Size = some sizes
 kindAs (Shape.Row x w) = some (rowOf (pauli x) w)
-kindAs Lose = some lost
-kindAs (Light x) = some (lit (pauli x))
+kindAs Lose = some (member lost)
+kindAs (Light x) = some (member (lit (pauli x)))
 kindAs Decode = some decode
 
 abbrev pub bodyIn : Shape → ℕ
@@ -52,11 +51,20 @@ unknown? Lose = false
 unknown? (Light x) = false
 unknown? Decode = false
 
+abbrev pub decode? : Shape → Bool
+decode? Unknown = false
+decode? Wrong = false
+decode? Size = false
+decode? (Shape.Row x w) = false
+decode? Lose = false
+decode? (Light x) = false
+decode? Decode = true
+
 unfoldable pub RecordAs : List ℕ → Shape → Type 0
 RecordAs bytes Unknown = recordOf bytes ≡ unknown
 RecordAs bytes Wrong = recordOf bytes ≡ wrong
 RecordAs bytes Size = (recordOf bytes ≡ size (number bytes 1) (number bytes 3) (number bytes 5)) × (length bytes ≡ 7)
 RecordAs bytes (Shape.Row x w) = (recordOf bytes ≡ row (pauli x) (numbers bytes 1 w)) × (length bytes ≡ 1 + 2 * w) × (w ≤ 16)
-RecordAs bytes Lose = (recordOf bytes ≡ lose (number bytes 1)) × (length bytes ≡ 3)
-RecordAs bytes (Light x) = (recordOf bytes ≡ light (pauli x) (number bytes 1)) × (length bytes ≡ 3)
+RecordAs bytes Lose = (recordOf bytes ≡ add lost (number bytes 1)) × (length bytes ≡ 3)
+RecordAs bytes (Light x) = (recordOf bytes ≡ add (lit (pauli x)) (number bytes 1)) × (length bytes ≡ 3)
 RecordAs bytes Decode = (recordOf bytes ≡ report (getD bytes 1 0) (number bytes 2)) × (length bytes ≡ 4)

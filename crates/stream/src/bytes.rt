@@ -2,8 +2,8 @@
 ghost use mathlib.Core.Path.{_≡_};
 ghost use Prim.Native.Nat.{_+_, _*_, _<_, _≤_};
 ghost use lib.ListN.{length, take};
-ghost use Rattle.stream.specs.Records.{numbers};
-ghost use Rattle.stream.specs.Records;
+ghost use Rattle.records.specs.Records.{numbers};
+ghost use Rattle.records.specs.Records;
 
 // A byte as a number, with its bound.
 fn wide(b: u8) -> u16

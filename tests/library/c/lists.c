@@ -7,13 +7,13 @@
 #include <stdlib.h>
 #include <string.h>
 
-enum { FLAT, ENDS, LOST, LIT, WORK, X_MARKS, X_FORMS, X_CORRECTION, Z_MARKS, Z_FORMS, Z_CORRECTION, LISTS };
+enum { FLAT, ENDS, SHOT, WORK, X_MARKS, X_FORMS, X_CORRECTION, Z_MARKS, Z_FORMS, Z_CORRECTION, LISTS };
 enum { N = 4, SHOT = 3, DECODE = 6, RECORDS = 9 };
 
 static const char *const names[LISTS] = {
-    "flat", "ends", "lost", "lit", "work", "x_marks", "x_forms", "x_correction", "z_marks", "z_forms", "z_correction"};
+    "flat", "ends", "shot", "work", "x_marks", "x_forms", "x_correction", "z_marks", "z_forms", "z_correction"};
 static const size_t widths[LISTS] = {2, 2, 1, 1, 8, 1, 8, 1, 1, 8, 1};
-static const size_t least[LISTS] = {RACK_FLAT, RACK_ENDS, RACK_LOST, RACK_LIT, RACK_WORK, N, N, N, N, N, N};
+static const size_t least[LISTS] = {RACK_FLAT, RACK_ENDS, RACK_SHOT, RACK_WORK, N, N, N, N, N, N};
 
 /* The records and their answers. */
 static const struct {
@@ -109,7 +109,7 @@ static struct rack_reply step(struct lent *lent, int record) {
     void **list = lent->list;
     const size_t *length = lent->length;
     struct rack_reply reply = rack_step(
-        lent->state, list[FLAT], length[FLAT], list[ENDS], length[ENDS], list[LOST], length[LOST], list[LIT], length[LIT],
+        lent->state, list[FLAT], length[FLAT], list[ENDS], length[ENDS], list[SHOT], length[SHOT],
         list[WORK], length[WORK], list[X_MARKS], length[X_MARKS], list[X_FORMS], length[X_FORMS], list[X_CORRECTION],
         length[X_CORRECTION], list[Z_MARKS], length[Z_MARKS], list[Z_FORMS], length[Z_FORMS], list[Z_CORRECTION],
         length[Z_CORRECTION], records[record].bytes, records[record].length);

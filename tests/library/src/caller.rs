@@ -15,7 +15,7 @@ pub struct Caller {
     pub random: Random,
     pub tally: Tally,
     pub state: State,
-    /// The bytes of `flat`, `ends`, `lost` and `lit`.
+    /// The bytes of `flat`, `ends` and `shot`.
     pub held: [Vec<u8>; HELD],
     garbage: Vec<u8>,
     /// The part of the garbage that each list was last lent with.
@@ -31,7 +31,7 @@ impl Caller {
         let least = Lengths::least(QUBITS).0;
         let room: [usize; NAMES.len()] =
             std::array::from_fn(|list| (least[list] * times + 40) * WIDTHS[list]);
-        let most = *room.iter().max().expect("eleven lists");
+        let most = *room.iter().max().expect("ten lists");
         Caller {
             garbage: garbage(&mut random, most),
             random,
@@ -74,7 +74,7 @@ impl Caller {
         }
     }
 
-    /// One call; what is outside the lists and the record must stay.
+    /// One call; what is outside the lists and the record must stay, and after a refusal every list.
     pub fn call(&mut self, record: &[u8], lengths: &Lengths) -> Result<Reply, String> {
         watch::record(record, || lengths.short(self.needed(record)));
         for list in 0..NAMES.len() {
@@ -89,6 +89,9 @@ impl Caller {
         let step = |bytes: &[u8]| watch::call(|| rack::step(self.state, &mut lent, bytes));
         let reply = self.record.locked(step);
         self.state = reply.state;
+        if reply.answer == rack::answer::REFUSED {
+            self.unwritten()?;
+        }
         for (held, list) in self.held.iter_mut().zip(&self.lists) {
             held[..list.list().len()].copy_from_slice(list.list());
         }
@@ -97,6 +100,15 @@ impl Caller {
         }
         self.tally.add(&reply)?;
         Ok(reply)
+    }
+
+    /// No list is other than it was lent.
+    fn unwritten(&self) -> Result<(), String> {
+        (0..NAMES.len()).try_for_each(|list| {
+            let from = self.held.get(list).unwrap_or(&self.garbage);
+            let same = self.lists[list].list() == &from[self.lent[list].clone()];
+            ensure(same, || format!("a refusal wrote {}", NAMES[list]))
+        })
     }
 
     /// What the work list or one of the six was lent with.
@@ -119,12 +131,11 @@ fn garbage(random: &mut Random, bytes: usize) -> Vec<u8> {
 }
 
 fn lend(lists: &mut [Region; NAMES.len()]) -> Lent<'_> {
-    let [flat, ends, lost, lit, work, x_marks, x_forms, x_flips, z_marks, z_forms, z_flips] = lists;
+    let [flat, ends, shot, work, x_marks, x_forms, x_flips, z_marks, z_forms, z_flips] = lists;
     Lent {
         flat: flat.elements(),
         ends: ends.elements(),
-        lost: lost.elements(),
-        lit: lit.elements(),
+        shot: shot.elements(),
         work: work.elements(),
         x: three(x_marks, x_forms, x_flips),
         z: three(z_marks, z_forms, z_flips),

@@ -1,15 +1,14 @@
-//! How long each of the eleven lists is in a call.
+//! How long each of the ten lists is in a call.
 
 use crate::rack::LEAST;
 use judge::random::Random;
 use judge::stream::Lent;
 
 /// The lists in the order of a call: code and shot, work, and a decode's six.
-pub const NAMES: [&str; 11] = [
+pub const NAMES: [&str; 10] = [
     "flat",
     "ends",
-    "lost",
-    "lit",
+    "shot",
     "work",
     "x_marks",
     "x_forms",
@@ -20,24 +19,24 @@ pub const NAMES: [&str; 11] = [
 ];
 
 /// The bytes of an element.
-pub const WIDTHS: [usize; 11] = [2, 2, 1, 1, 8, 1, 8, 1, 1, 8, 1];
+pub const WIDTHS: [usize; 10] = [2, 2, 1, 8, 1, 8, 1, 1, 8, 1];
 
 /// So many lists hold code and shot; then comes the work list, then the six.
-pub const HELD: usize = 4;
-pub const WORK: usize = 4;
-pub const SIX: usize = 5;
+pub const HELD: usize = 3;
+pub const WORK: usize = 3;
+pub const SIX: usize = 4;
 
 /// How many times its least length a list can have.
 pub const TIMES: usize = 4;
 
 /// The lists' lengths, in elements.
 #[derive(Clone)]
-pub struct Lengths(pub [usize; 11]);
+pub struct Lengths(pub [usize; 10]);
 
 impl Lengths {
     /// The least, the six lists with `n` elements.
     pub fn least(n: usize) -> Lengths {
-        let mut lengths = [n; 11];
+        let mut lengths = [n; 10];
         lengths[..SIX].copy_from_slice(&LEAST);
         Lengths(lengths)
     }

@@ -11,19 +11,20 @@ use judge::wrong::Wrong;
 
 const FLAT: usize = 0;
 const ENDS: usize = 1;
-const LOST: usize = 2;
-const LIT: usize = 3;
+const SHOT: usize = 2;
+/// Where `shot` has the rows' elements.
+const ROWS: usize = 1024;
 
 /// A decode that is carried out, and the reports of its halves.
 pub type Decoded = (Decode, [Report; 2]);
 
 pub struct Mirror {
     model: Model,
-    /// The bytes of `flat`, `ends`, `lost` and `lit`.
+    /// The bytes of `flat`, `ends` and `shot`.
     pub held: [Vec<u8>; HELD],
     /// The sizes announced and the rows taken so far.
     code: State,
-    /// Whether `lost` and `lit` still hold an earlier shot.
+    /// Whether `shot` still holds an earlier one.
     stale: bool,
 }
 
@@ -85,12 +86,12 @@ impl Mirror {
                 self.code = State { n, x, z, ..State::default() };
                 self.stale = true;
             }
-            2 => self.begun()[LOST][usize::from(number(1))] = 1,
+            2 => self.begun()[usize::from(number(1))] = 1,
             3 => {
                 let place = self.code.x + number(1);
-                self.begun()[LIT][usize::from(place)] = 1;
+                self.begun()[ROWS + usize::from(place)] = 1;
             }
-            4 => self.begun()[LIT][usize::from(number(1))] = 1,
+            4 => self.begun()[ROWS + usize::from(number(1))] = 1,
             5 => {
                 self.begun();
                 self.stale = true;
@@ -99,14 +100,15 @@ impl Mirror {
         }
     }
 
-    /// The lists with nothing of an earlier shot.
-    fn begun(&mut self) -> &mut [Vec<u8>; HELD] {
+    /// The shot's list with nothing of an earlier one.
+    fn begun(&mut self) -> &mut [u8] {
+        let shot = &mut self.held[SHOT];
         if self.stale {
-            self.held[LOST][..self.code.n.into()].fill(0);
-            self.held[LIT][..usize::from(self.code.x + self.code.z)].fill(0);
+            shot[..self.code.n.into()].fill(0);
+            shot[ROWS..][..usize::from(self.code.x + self.code.z)].fill(0);
             self.stale = false;
         }
-        &mut self.held
+        shot
     }
 
     /// The row after those before it.

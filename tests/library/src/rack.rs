@@ -40,8 +40,8 @@ pub mod answer {
     pub const REFUSED: u16 = 3;
 }
 
-/// The least lengths of `flat`, `ends`, `lost`, `lit` and `work`.
-pub const LEAST: [usize; 5] = [16_384, 1_024, 1_024, 1_024, 8_192];
+/// The least lengths of `flat`, `ends`, `shot` and `work`.
+pub const LEAST: [usize; 4] = [16_384, 1_024, 2_048, 8_192];
 
 /// A half's three lists.
 pub struct Three<'a> {
@@ -54,8 +54,7 @@ pub struct Three<'a> {
 pub struct Lent<'a> {
     pub flat: &'a mut [u16],
     pub ends: &'a mut [u16],
-    pub lost: &'a mut [u8],
-    pub lit: &'a mut [u8],
+    pub shot: &'a mut [u8],
     pub work: &'a mut [u64],
     pub x: Three<'a>,
     pub z: Three<'a>,
@@ -69,10 +68,8 @@ extern "C" {
         flat_length: usize,
         ends: *mut u16,
         ends_length: usize,
-        lost: *mut u8,
-        lost_length: usize,
-        lit: *mut u8,
-        lit_length: usize,
+        shot: *mut u8,
+        shot_length: usize,
         work: *mut u64,
         work_length: usize,
         x_marks: *mut u8,
@@ -105,10 +102,8 @@ pub fn step(state: State, lent: &mut Lent, bytes: &[u8]) -> Reply {
             lent.flat.len(),
             lent.ends.as_mut_ptr(),
             lent.ends.len(),
-            lent.lost.as_mut_ptr(),
-            lent.lost.len(),
-            lent.lit.as_mut_ptr(),
-            lent.lit.len(),
+            lent.shot.as_mut_ptr(),
+            lent.shot.len(),
             lent.work.as_mut_ptr(),
             lent.work.len(),
             lent.x.marks.as_mut_ptr(),

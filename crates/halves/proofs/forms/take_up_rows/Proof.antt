@@ -3,7 +3,8 @@ use mathlib.Core.Path.{_≡_}
 use Prim.Native.Nat.{_+_, _-_, _≤_}
 use borrow.Author.Needs.{needs}
 use Rattle.machine.specs.Machine.{isOpen, takeUpAll}
-use Rattle.halves.specs.Lists.{view, withLive, checksFrom}
+use Rattle.machine.specs.Lists.{view}
+use Rattle.halves.specs.Lists.{withLive, checksFrom}
 use Rattle.halves.specs.Sides.{closedAt?}
 use Rattle.halves.proofs.FormRows.{Taking, taking-start, taking-turn, taking-failed, taking-end}
 use Rattle.halves.proofs.forms.take_up_rows.Statement.{statement}

@@ -8,7 +8,8 @@ use borrow.Author.Needs.{needs}
 use lib.ListN.{length, getD}
 use Rattle.halves.specs.declared.Choice.{Choice}
 use Rattle.machine.specs.Machine.{isOpen, most}
-use Rattle.halves.specs.Lists.{view, choiceOf}
+use Rattle.machine.specs.Lists.{view}
+use Rattle.halves.specs.Lists.{choiceOf}
 use Rattle.halves.specs.Scans.{betterOf, NamedBelow}
 use Rattle.halves.proofs.Choices.{named-below, below-more, choice-yes, choice-no}
 use Rattle.halves.proofs.guesses.most_open.Statement.{statement}

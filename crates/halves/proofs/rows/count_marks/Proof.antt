@@ -6,7 +6,7 @@ use native.Mathlib.Omega.{arith}
 use denote.Ref.{now}
 use borrow.Author.Needs.{needs}
 use Rattle.machine.specs.Report.{marked}
-use Rattle.halves.specs.Lists.{view}
+use Rattle.machine.specs.Lists.{view}
 use Rattle.halves.proofs.Scanning.{marked-yes, marked-no}
 use Rattle.halves.proofs.rows.count_marks.Statement.{statement}
 use Rattle.halves.proofs.rows.count_marks.Tie as tie

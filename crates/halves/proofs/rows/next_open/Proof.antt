@@ -6,7 +6,7 @@ use denote.Ref.{now}
 use borrow.Author.Needs.{needs}
 use lib.ListN.{length, drop}
 use Rattle.machine.specs.Machine.{isOpen, part}
-use Rattle.halves.specs.Lists.{view}
+use Rattle.machine.specs.Lists.{view}
 use Rattle.halves.proofs.Scanning.{part-no}
 use Rattle.halves.proofs.rows.next_open.Statement.{statement}
 use Rattle.halves.proofs.rows.next_open.Tie as tie

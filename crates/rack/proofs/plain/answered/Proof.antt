@@ -1,7 +1,7 @@
 -- `rack::plain::answered` meets its contract. Assumes nothing.
 use mathlib.Core.Path.{_≡_, _∙_, sym, ap}
 use borrow.Author.Needs.{needs}
-use Rattle.stream.specs.declared.Answer.{Answer}
+use Rattle.records.specs.declared.Answer.{Answer}
 use Rattle.rack.specs.declared.RackState.{RackState}
 use Rattle.rack.specs.Plain.{plainAnswer}
 use Rattle.rack.proofs.plain.answered.Statement.{statement}

@@ -1,6 +1,6 @@
 -- `stream::bytes::number` meets its contract. Assumes nothing.
 use borrow.Author.Needs.{needs}
-use Rattle.stream.specs.Records.{number}
+use Rattle.records.specs.Records.{number}
 use Rattle.stream.proofs.bytes.number.Statement.{statement}
 use Rattle.stream.proofs.bytes.number.Tie as tie
 

@@ -3,7 +3,7 @@ use mathlib.Core.Path.{_≡_}
 use Prim.Native.Nat.{_-_, _≤_}
 use borrow.Author.Needs.{needs}
 use lib.ListN.{length, take}
-use Rattle.stream.specs.Records.{numbers}
+use Rattle.records.specs.Records.{numbers}
 use Rattle.stream.proofs.Numbers.{numbers-turn, numbers-all}
 use Rattle.stream.proofs.bytes.qubits_of.Statement.{statement}
 use Rattle.stream.proofs.bytes.qubits_of.Tie as tie

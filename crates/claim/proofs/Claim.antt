@@ -1,0 +1,192 @@
+-- Demands 1 to 3 hold of every list of calls from a fresh start. Assumes nothing.
+use mathlib.Core.Path.{_≡_, refl, sym, ap, _∙_, subst}
+use mathlib.Core.Bool.{Bool, true, false}
+use mathlib.Core.Option.{Option, none, some}
+use mathlib.Core.List.{List, [], _∷_, _++_}
+use Prim.Native.Nat.{ℕ, _≤_, _<_}
+use lib.Dec.{T, ltb, ltb→lt}
+use lib.ListN.{length}
+use Rattle.binary.specs.Meaning.{Qubits}
+use Rattle.binary.proofs.Bits.{never, and-out}
+use Rattle.binary.proofs.Tests.{commute-test}
+use Rattle.code.proofs.Order.{rows-below}
+use Rattle.code.proofs.Sharing.{commute-symmetric}
+use Rattle.machine.specs.declared.HalfReport.{HalfReport}
+use Rattle.machine.specs.Machine.{Half}
+use Rattle.machine.specs.Report.{Shown, outcome}
+use Rattle.machine.specs.Lists.{Shows, seen}
+use Rattle.machine.specs.Demands.{Obeys, VerdictLaw, FillingsLaw, ClassesLaw, BudgetsLaw}
+use Rattle.machine.proofs.Demands.{verdict, fillings, classes, budgets}
+use Rattle.machine.proofs.Seen.{seen-is}
+use Rattle.records.specs.declared.Report.{Report}
+use Rattle.records.specs.declared.State.{State}
+use Rattle.records.specs.declared.Refusal.{Refusal}
+use Rattle.records.specs.declared.Answer.{Answer}
+use Rattle.records.specs.declared.Answer.the-variants.{Decoded}
+use Rattle.records.specs.Records.{Pauli, X, Z, lost, Record, report, recordOf}
+use Rattle.records.specs.History.{Code, Shot, History, empty, ready, half}
+use Rattle.records.specs.Table.{afterwards}
+use Rattle.records.specs.Lists.{Lists, Six, shortLists, marks, ShotIn, Holds, Represents}
+use Rattle.records.specs.Promise.{refusalAt, answerOf, Left, Written, Unworked}
+use Rattle.claim.specs.Calls.{Step, lent, Call, step, Keeps, stateLeft, listsLeft, Run, call, makes, past, Place, at, begins}
+use Rattle.claim.specs.Claim.{Told, reportFor, listsFor, shows, Reported, HalfRight, SameHalf, Claim}
+
+----------------------------------------------------------------------
+-- Lengths
+
+-- Lists as long as others.
+pub record AsLong (l l′ : Lists) : Type 0 where
+  pub flat : length (l .flat) ≡ length (l′ .flat)
+  pub ends : length (l .ends) ≡ length (l′ .ends)
+  pub shot : length (l .shot) ≡ length (l′ .shot)
+
+short-same : (l l′ : Lists) → AsLong l l′ → (work : ℕ) → shortLists l work ≡ shortLists l′ work
+unfolding shortLists
+short-same l l′ e work = rw (e .flat, e .ends, e .shot)
+
+-- A refusal is told from lengths alone.
+refusal-same : (l l′ : Lists) → AsLong l l′ → (k : Step) (a : History) → refusalAt (recordOf (k .bytes)) a (lent l k) ≡ refusalAt (recordOf (k .bytes)) a (lent l′ k)
+refusal-same l l′ e k a = rw (short-same l l′ e (length (k .work)))
+
+----------------------------------------------------------------------
+-- The call in its run
+
+-- A call keeps the lists' lengths.
+long-after : (l₀ l : Lists) (st : State) (k : Call) → AsLong l₀ l → Keeps st l k → AsLong l₀ (listsLeft l k)
+long-after l₀ l st (step k) e p = record {
+  flat = e .flat ∙ sym (p .lengths .flat);
+  ends = e .ends ∙ sym (p .lengths .ends);
+  shot = e .shot ∙ sym (p .lengths .shot);
+}
+
+-- State and lists hold the code and shot that the call makes.
+held-after : (l₀ l : Lists) (st : State) (a : History) (k : Call) → AsLong l₀ l → Represents a st l → Keeps st l k
+    → Represents (makes l₀ a k) (stateLeft st k) (listsLeft l k)
+held-after l₀ l st a (step k) e v p =
+    subst (λ (r : Option Refusal). Represents (afterwards r (recordOf (k .bytes)) a) (k .reply .state) (k .left .lists))
+    (sym (refusal-same l₀ l e k a)) (p .carried a v .next)
+
+-- What the calls before leave: a state and lists that hold the code and shot of `past`, and lists as long as at the start.
+pub record Reached (l : Lists) (a : History) (k : Call) (l′ : Lists) : Type 0 where
+  pub state : State
+  pub long : AsLong l l′
+  pub held : Represents a state l′
+  pub kept : Keeps state l′ k
+
+reached : (l₀ l : Lists) (st : State) (a : History) (before after : List Call) (k : Call) → AsLong l₀ l → Represents a st l
+    → Run st l (before ++ (k ∷ after)) → Reached l₀ (past l₀ a before) k (begins l before)
+unfolding past
+reached l₀ l st a [] after k e v (call p run) = record { state = st; long = e; held = v; kept = p }
+reached l₀ l st a (j ∷ before) after k e v (call p run) =
+    reached l₀ (listsLeft l j) (stateLeft st j) (makes l₀ a j) before after k (long-after l₀ l st j e p) (held-after l₀ l st a j e v p) run
+
+placed : (k : Call) (p : Place k) → Reached (p .lists) (at p) k (begins (p .lists) (p .before))
+placed k p =
+    reached (p .lists) (p .lists) (p .state) empty (p .before) (p .after) k (record { flat = refl; ends = refl; shot = refl }) (p .fresh) (p .run)
+
+told : (k : Step) (p : Place (step k)) → Told (at p) (p .lists) (begins (p .lists) (p .before)) k
+told k p =
+    let z = placed (step k) p in
+    let c = z .kept .carried (at p) (z .held) in
+    let e = sym (refusal-same (p .lists) (begins (p .lists) (p .before)) (z .long) k (at p)) in
+    record {
+      answer = subst (λ (r : Option Refusal). k .reply .answer ≡ answerOf r (recordOf (k .bytes)) (at p)) e (c .answer);
+      lists = subst (λ (r : Option Refusal). Left r (recordOf (k .bytes)) (at p) (begins (p .lists) (p .before)) (k .left .lists)) e (c .lists);
+      six = subst (λ (r : Option Refusal). Written r (recordOf (k .bytes)) (at p) (k .six) (k .left .six)) e (c .six);
+      work = subst (λ (r : Option Refusal). Unworked r (recordOf (k .bytes)) (k .work) (k .left .work)) e (c .work);
+    }
+
+----------------------------------------------------------------------
+-- The halves that a decode reports
+
+lost-below : (stale : Bool) (c : Code) (s : Shot) (shot : List ℕ) → ShotIn stale c s shot → (q : ℕ) → s .lost q ≡ true → q < c .n
+lost-below true c s shot v q t = never t (ap (λ (f : Qubits). f q) (v lost))
+lost-below false c s shot v q t =
+    let e : marks (c .n) 0 shot q ≡ true = sym (ap (λ (f : Qubits). f q) (v .sets lost)) ∙ t in
+    ltb→lt q (c .n) (subst T (sym (and-out (ltb q (c .n)) _ e .0)) tt)
+
+-- The halves of a code and shot that state and lists hold obey document 01.
+pub obeys : (p : Pauli) (c : Code) (s : Shot) (st : State) (l : Lists) → Holds c s st l → Obeys (half p c s)
+obeys X c s st l v =
+    record {
+      rows-below = rows-below (c .n) (c .zs) (v .good-zs .ascending);
+      others-below = rows-below (c .n) (c .xs) (v .good-xs .ascending);
+      lost-below = lost-below (st .stale) c s (l .shot) (v .shot);
+      commute = commute-test (c .zs) (c .xs) .1 (v .commute);
+    }
+obeys Z c s st l v =
+    record {
+      rows-below = rows-below (c .n) (c .xs) (v .good-xs .ascending);
+      others-below = rows-below (c .n) (c .zs) (v .good-zs .ascending);
+      lost-below = lost-below (st .stale) c s (l .shot) (v .shot);
+      commute = commute-symmetric (c .n) (c .xs) (c .zs) (v .good-xs .ascending) (v .good-zs .ascending) .0 (commute-test (c .zs) (c .xs) .1 (v .commute));
+    }
+
+-- Of a decode that is reported: its report and its lists are those of the two outcomes.
+record Outcomes (c : Code) (s : Shot) (budget limit : ℕ) (r : Report) (old new : Six) : Type 0 where
+  reports : (p : Pauli) → reportFor p r ≡ outcome (half p c s) budget limit .report
+  lists : (p : Pauli) → Shows (c .n) (outcome (half p c s) budget limit) (listsFor p old) (listsFor p new)
+
+outcomes : (c : Code) (s : Shot) (budget limit : ℕ) (r : Report) (old new : Six) (x : Answer) (q : Option Refusal) (w : Record) (a : History)
+    → a ≡ ready c s → w ≡ report budget limit → x ≡ Decoded r → x ≡ answerOf q w a → Written q w a old new → Outcomes c s budget limit r old new
+outcomes c s budget limit r old new x (some n) w a i j d e f = let z : _≡_ {A = Bool} true false = cc in never refl z
+outcomes c s budget limit r old new x none w a i j d e f =
+    let g : x ≡ answerOf none (report budget limit) (ready c s) = subst (λ (b : History). x ≡ answerOf none (report budget limit) b) i (subst (λ (u : Record). x ≡ answerOf none u a) j e) in
+    let h : Written none (report budget limit) (ready c s) old new = subst (λ (b : History). Written none (report budget limit) b old new) i (subst (λ (u : Record). Written none u a old new) j f) in
+    let same : r ≡ record { x = outcome (half X c s) budget limit .report; z = outcome (half Z c s) budget limit .report } = cc in
+    record { reports = λ p. of p same; lists = λ p. in-list p h }
+  where
+    of : (p : Pauli) → r ≡ record { x = outcome (half X c s) budget limit .report; z = outcome (half Z c s) budget limit .report }
+        → reportFor p r ≡ outcome (half p c s) budget limit .report
+    of X t = ap (λ (u : Report). u .x) t
+    of Z t = ap (λ (u : Report). u .z) t
+
+    in-list : (p : Pauli) → Written none (report budget limit) (ready c s) old new → Shows (c .n) (outcome (half p c s) budget limit) (listsFor p old) (listsFor p new)
+    in-list X t = t .0
+    in-list Z t = t .1
+
+-- What a reported decode shows of a half is its outcome.
+record ShownAs (k : Step) (c : Code) (s : Shot) (budget limit : ℕ) (r : Report) : Type 0 where
+  obeyed : (p : Pauli) → Obeys (half p c s)
+  same : (p : Pauli) → shows p c r k ≡ outcome (half p c s) budget limit
+
+shown-as : (k : Step) (p : Place (step k)) (c : Code) (s : Shot) (budget limit : ℕ) (r : Report) → Reported (at p) k c s budget limit r
+    → ShownAs k c s budget limit r
+shown-as k p c s budget limit r v =
+    let z = placed (step k) p in
+    let t = told k p in
+    let held : Holds c s (z .state) (begins (p .lists) (p .before)) = subst (λ (a : History). Represents a (z .state) (begins (p .lists) (p .before))) (v .at) (z .held) in
+    let o = outcomes c s budget limit r (k .six) (k .left .six) (k .reply .answer) (refusalAt (recordOf (k .bytes)) (at p) (lent (p .lists) k)) (recordOf (k .bytes)) (at p) (v .at) (v .decode) (v .answer) (t .answer) (t .six) in
+    let good : (b : Pauli) → Obeys (half b c s) = λ b. obeys b c s (z .state) (begins (p .lists) (p .before)) held in
+    record {
+      obeyed = good;
+      same = λ b. ap (λ (u : HalfReport). seen (c .n) u (listsFor b (k .left .six))) (o .reports b)
+          ∙ seen-is (half b c s) (good b) budget limit (listsFor b (k .six)) (listsFor b (k .left .six)) (o .lists b);
+    }
+
+----------------------------------------------------------------------
+-- The claim
+
+half-right : (h : Half) → Obeys h → (budget limit : ℕ) → HalfRight h budget limit (outcome h budget limit)
+unfolding VerdictLaw FillingsLaw ClassesLaw
+half-right h good budget limit =
+    record { verdict = verdict h good budget limit; fillings = fillings h good budget limit; classes = classes h good budget limit }
+
+same-half : (h : Half) → Obeys h → (budget limit budget′ limit′ : ℕ) → budget ≤ budget′ → limit ≤ limit′
+    → SameHalf (outcome h budget limit) (outcome h budget′ limit′)
+unfolding BudgetsLaw
+same-half h good budget limit budget′ limit′ i j = budgets h good budget budget′ limit limit′ i j
+
+pub claim : Claim
+claim =
+    record {
+      told = told;
+      right = λ k p c s budget limit r v b.
+          let z = shown-as k p c s budget limit r v in
+          subst (HalfRight (half b c s) budget limit) (sym (z .same b)) (half-right (half b c s) (z .obeyed b) budget limit);
+      same = λ k k′ p p′ c s budget limit budget′ limit′ r r′ v v′ i j b.
+          let z = shown-as k p c s budget limit r v in
+          let z′ = shown-as k′ p′ c s budget′ limit′ r′ v′ in
+          subst (λ (x : Shown). SameHalf x (shows b c r′ k′)) (sym (z .same b))
+          (subst (SameHalf (outcome (half b c s) budget limit)) (sym (z′ .same b)) (same-half (half b c s) (z .obeyed b) budget limit budget′ limit′ i j));
+    }

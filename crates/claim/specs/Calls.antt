@@ -1,0 +1,81 @@
+-- Lists of calls from a fresh start (document 01, "Records").
+--   Step    a call of `step`: its bytes and the decode and work lists lent to it; its reply and what it left in every list
+--   Call    a call that may stand in a list: a constructor for each public function
+--   Keeps   the call keeps the promise of its function
+--   Run     calls that each keep their promise and begin with state, code and shot lists as the last one left them
+--   makes   the code and shot that a call makes, told from its bytes and from whether a lent list was short; past: those that calls make
+--   Place   a call in a run from a fresh start, and where it stands
+use mathlib.Core.Path.{_≡_}
+use mathlib.Core.List.{List, [], _∷_, _++_}
+use Prim.Native.Nat.{ℕ}
+use Rattle.records.specs.declared.Phase.the-variants.{Empty}
+use Rattle.records.specs.declared.State.{State}
+use Rattle.records.specs.declared.Reply.{Reply}
+use Rattle.records.specs.Records.{recordOf}
+use Rattle.records.specs.History.{History, empty}
+use Rattle.records.specs.Table.{afterwards}
+use Rattle.records.specs.Lists.{Lists, Six, Lent}
+use Rattle.records.specs.Promise.{refusalAt, Promise}
+
+----------------------------------------------------------------------
+-- Calls
+
+-- Decode and work lists may be others at every call, of any length.
+pub record Step : Type 0 where
+  pub bytes : List ℕ
+  pub work : List ℕ
+  pub six : Six
+  pub reply : Reply
+  pub left : Lent
+
+abbrev pub lent : Lists → Step → Lent
+lent l k = record { lists = l; work = k .work; six = k .six }
+
+pub data Call : Type 0 where
+  step : Step → Call
+
+abbrev pub Keeps : State → Lists → Call → Type 0
+Keeps st l (step k) = Promise st (k .bytes) (lent l k) (k .left) (k .reply)
+
+-- State and lists as the call leaves them.
+abbrev pub stateLeft : State → Call → State
+stateLeft st (step k) = k .reply .state
+
+abbrev pub listsLeft : Lists → Call → Lists
+listsLeft l (step k) = k .left .lists
+
+----------------------------------------------------------------------
+-- Runs
+
+pub data Run : State → Lists → List Call → Type 0 where
+  ended : {st : State} {l : Lists} → Run st l []
+  call : {st : State} {l : Lists} {k : Call} {ks : List Call} → Keeps st l k → Run (stateLeft st k) (listsLeft l k) ks → Run st l (k ∷ ks)
+
+-- At a fresh start there is no code and no shot.
+abbrev pub Fresh : State → Type 0
+Fresh st = st .phase ≡ Empty
+
+-- The lists keep their lengths, so whether one was short is told from the lists of the start and of the call.
+abbrev pub makes : Lists → History → Call → History
+makes l a (step k) = afterwards (refusalAt (recordOf (k .bytes)) a (lent l k)) (recordOf (k .bytes)) a
+
+unfoldable pub past : Lists → History → List Call → History
+past l a [] = a
+past l a (k ∷ ks) = past l (makes l a k) ks
+
+pub record Place (k : Call) : Type 0 where
+  pub state : State
+  pub lists : Lists
+  pub fresh : Fresh state
+  pub before : List Call
+  pub after : List Call
+  pub run : Run state lists (before ++ (k ∷ after))
+
+-- The code and shot at the call.
+abbrev pub at : {k : Call} → Place k → History
+at p = past (p .lists) empty (p .before)
+
+-- The lists of code and shot that the call begins with.
+abbrev pub begins : Lists → List Call → Lists
+begins l [] = l
+begins l (k ∷ ks) = begins (listsLeft l k) ks

@@ -1,0 +1,78 @@
+-- Demands 1 to 3, one claim about whole lists of calls from a fresh start (document 00).
+--   Told       demand 1, of one record
+--   HalfRight  demands 2 and 3, of one half that a decode reports
+--   Claim      every call in every run from a fresh start is so, and any two reported decodes of one code and shot agree as demand 3 says
+use mathlib.Core.Path.{_≡_}
+use mathlib.Core.Bool.{true, false}
+use mathlib.Core.Logic.{_⊎_}
+use Prim.Native.Nat.{ℕ, _≤_}
+use Rattle.machine.specs.declared.Word.the-variants.{None}
+use Rattle.machine.specs.declared.HalfReport.{HalfReport}
+use Rattle.machine.specs.Words.{finished?}
+use Rattle.machine.specs.Machine.{Half, isOpen}
+use Rattle.machine.specs.Report.{Shown}
+use Rattle.machine.specs.Lists.{HalfLists, seen}
+use Rattle.machine.specs.Demands.{Verdict, Fillings, Classes}
+use Rattle.records.specs.declared.Report.{Report}
+use Rattle.records.specs.declared.Answer.the-variants.{Decoded}
+use Rattle.records.specs.Records.{Pauli, X, Z, report, recordOf}
+use Rattle.records.specs.History.{Code, Shot, History, ready, half}
+use Rattle.records.specs.Lists.{Lists, Six}
+use Rattle.records.specs.Promise.{refusalAt, answerOf, Left, Written, Unworked}
+use Rattle.claim.specs.Calls.{Step, lent, step, Place, at, begins}
+
+----------------------------------------------------------------------
+-- One call
+
+-- Demand 1. The answer is the record's own or the refusal with the first number that fits, every list is left as document 01 says: l are
+-- the lists of code and shot at the start, l′ before this call.
+pub record Told (a : History) (l l′ : Lists) (k : Step) : Type 0 where
+  pub answer : k .reply .answer ≡ answerOf (refusalAt (recordOf (k .bytes)) a (lent l k)) (recordOf (k .bytes)) a
+  pub lists : Left (refusalAt (recordOf (k .bytes)) a (lent l k)) (recordOf (k .bytes)) a l′ (k .left .lists)
+  pub six : Written (refusalAt (recordOf (k .bytes)) a (lent l k)) (recordOf (k .bytes)) a (k .six) (k .left .six)
+  pub work : Unworked (refusalAt (recordOf (k .bytes)) a (lent l k)) (recordOf (k .bytes)) (k .work) (k .left .work)
+
+abbrev pub reportFor : Pauli → Report → HalfReport
+reportFor X r = r .x
+reportFor Z r = r .z
+
+abbrev pub listsFor : Pauli → Six → HalfLists
+listsFor X s = s .x
+listsFor Z s = s .z
+
+-- What a decode shows of a half: its report, and its three lists as the call left them.
+abbrev pub shows : Pauli → Code → Report → Step → Shown
+shows p c r k = seen (c .n) (reportFor p r) (listsFor p (k .left .six))
+
+-- A decode that is reported: at this code and shot, with this budget and limit.
+pub record Reported (a : History) (k : Step) (c : Code) (s : Shot) (budget limit : ℕ) (r : Report) : Type 0 where
+  pub at : a ≡ ready c s
+  pub decode : recordOf (k .bytes) ≡ report budget limit
+  pub answer : k .reply .answer ≡ Decoded r
+
+-- Demands 2 and 3, of what a decode shows of a half.
+pub record HalfRight (h : Half) (budget limit : ℕ) (s : Shown) : Type 0 where
+  pub verdict : Verdict h budget limit s
+  pub fillings : (s .report .word ≡ None → ⊥) → Fillings h s
+  pub classes : (s .report .word ≡ None → ⊥) → ((q : ℕ) → isOpen (s .mark) q ≡ false) → Classes h s
+
+-- Demand 3, of two decodes: where a half of the first is finished or none, the same half of the second shows the same.
+abbrev pub SameHalf : Shown → Shown → Type 0
+SameHalf s s′ = (finished? (s .report .word) ≡ true) ⊎ (s .report .word ≡ None) → s′ ≡ s
+
+----------------------------------------------------------------------
+-- The claim
+
+-- For every list of calls from a fresh start, refused records included.
+pub record Claim : Type 0 where
+  -- Every record that obeys document 01 and meets lists long enough is carried out. Every other record is refused with the first number that
+  -- fits, the lent lists untouched, the code and shot left as the table says.
+  pub told : (k : Step) (p : Place (step k)) → Told (at p) (p .lists) (begins (p .lists) (p .before)) k
+  -- Each half that a decode reports is right: its verdict, its fillings and its classes.
+  pub right : (k : Step) (p : Place (step k)) (c : Code) (s : Shot) (budget limit : ℕ) (r : Report) → Reported (at p) k c s budget limit r
+      → (b : Pauli) → HalfRight (half b c s) budget limit (shows b c r k)
+  -- Take any two reported decodes in such lists with the same code and the same shot, the second with a guess budget and a turn limit no
+  -- smaller. Where a half of the first is finished or none, the same half of the second has the same word, counts, marks, forms and correction.
+  pub same : (k k′ : Step) (p : Place (step k)) (p′ : Place (step k′)) (c : Code) (s : Shot) (budget limit budget′ limit′ : ℕ) (r r′ : Report)
+      → Reported (at p) k c s budget limit r → Reported (at p′) k′ c s budget′ limit′ r′ → budget ≤ budget′ → limit ≤ limit′
+      → (b : Pauli) → SameHalf (shows b c r k) (shows b c r′ k′)

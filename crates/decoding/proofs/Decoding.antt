@@ -1,0 +1,199 @@
+-- The ways through a decode, by the table. Assumes nothing.
+use mathlib.Core.Path.{_≡_, refl, sym, ap, ap₂, _∙_, subst}
+use mathlib.Core.Bool.{Bool, true, false, not, _||_, cond}
+use mathlib.Core.Option.{none, some}
+use mathlib.Core.List.{List}
+use Prim.Native.Nat.{ℕ, _≤_}
+use native.Mathlib.Omega.{arith}
+use lib.Dec.{ltb}
+use lib.ListN.{length}
+use borrow.Author.Tests.{ltb-false, not-false}
+use Rattle.binary.proofs.Bits.{bit, never}
+use Rattle.machine.specs.Report.{Shown, outcome}
+use Rattle.machine.specs.Lists.{Shows}
+use Rattle.records.specs.declared.Sizes.{Sizes}
+use Rattle.records.specs.declared.State.{State}
+use Rattle.records.specs.declared.Refusal.{Refusal}
+use Rattle.records.specs.declared.Refusal.the-variants.{Codeless, Budget, Spoiled, Short}
+use Rattle.records.specs.declared.Report.{Report}
+use Rattle.records.specs.declared.Answer.the-variants.{Decoded}
+use Rattle.records.specs.declared.Reply.{Reply}
+use Rattle.records.specs.Records.{Pauli, X, Z, Record, report}
+use Rattle.records.specs.History.{Code, sizesOf, Shot, History, ready, half}
+use Rattle.records.specs.Table.{inRange, refusal}
+use Rattle.records.specs.Lists.{Six, Lent, held, lentOf, shortLists, shortHalf, shortSix, Holds, Represents}
+use Rattle.records.specs.States.{withoutCode, endedOf, openedOf, saying}
+use Rattle.records.specs.Promise.{ShotLeft, refusalAt, Carried, Promised}
+use Rattle.records.proofs.HeldStates.{holds-ended, holds-left, no-code, with-code}
+use Rattle.records.proofs.Answers.{unchanged, carried}
+use Rattle.records.proofs.Range.{InRange, range-out, LongLists, long-lists, LongHalf, long-half}
+use Rattle.readout.specs.Readout.{Begun}
+use Rattle.readout.proofs.Shots.{left-begun, holds-opened}
+use Rattle.decoding.specs.declared.Test.{Test}
+use Rattle.decoding.specs.declared.Test.the-variants.{Passed, Failed}
+use Rattle.decoding.specs.Decoding.{givenOf, shownOf, lacking?, testOf, BothFit, GoodRows, Reports}
+use Rattle.decoding.proofs.Halves.{both-fit, shown-held, good-rows}
+
+----------------------------------------------------------------------
+-- The tests
+
+-- With sizes in range, what lacks is a list.
+short-of : (a b t : Bool) → (a || b || not t) ≡ true → t ≡ true → (a || b) ≡ true
+short-of true b t e f = refl
+short-of false true t e f = refl
+short-of false false t e f = never e (ap not f)
+
+nothing-short : (a b t : Bool) → (a || b || not t) ≡ false → (a ≡ false) × (b ≡ false) × (t ≡ true)
+nothing-short true b t e = never refl e
+nothing-short false true t e = never refl e
+nothing-short false false t e = (refl, refl, not-false t e)
+
+neither : (a b : Bool) → (a || b) ≡ false → (a ≡ false) × (b ≡ false)
+neither true b e = never refl e
+neither false b e = (refl, e)
+
+-- A decode that passes the tests.
+pub record Passes (budget : ℕ) (st : State) (lacking : Bool) : Type 0 where
+  pub coded : withoutCode (st .phase) ≡ false
+  pub few : ltb 63 budget ≡ false
+  pub clean : st .spoiled ≡ false
+  pub whole : lacking ≡ false
+
+passes : (budget : ℕ) (st : State) (lacking : Bool) → testOf budget st lacking ≡ Passed → Passes budget st lacking
+unfolding testOf
+passes budget st lacking e =
+    let z = chain (withoutCode (st .phase)) (ltb 63 budget) (st .spoiled) lacking _ _ _ _ e in record { coded = z .0; few = z .1; clean = z .2; whole = z .3 }
+  where
+    chain : (a b c d : Bool) (p q r s : Reply) → cond a (Failed p) (cond b (Failed q) (cond c (Failed r) (cond d (Failed s) Passed))) ≡ Passed
+        → (a ≡ false) × (b ≡ false) × (c ≡ false) × (d ≡ false)
+    chain true b c d p q r s e = let z : _≡_ {A = ℕ} 0 1 = cc in absurd (omega arith)
+    chain false true c d p q r s e = let z : _≡_ {A = ℕ} 0 1 = cc in absurd (omega arith)
+    chain false false true d p q r s e = let z : _≡_ {A = ℕ} 0 1 = cc in absurd (omega arith)
+    chain false false false true p q r s e = let z : _≡_ {A = ℕ} 0 1 = cc in absurd (omega arith)
+    chain false false false false p q r s e = (refl, refl, refl, refl)
+
+-- As the code tells it.
+pub passed : (budget : ℕ) (st : State) (l : Lent) (lacking : Bool) (test : Test) → lacking ≡ lacking? (st .sizes) l → test ≡ testOf budget st lacking
+    → test ≡ Passed → Passes budget st (lacking? (st .sizes) l)
+passed budget st l lacking test e f g = subst (Passes budget st) e (passes budget st lacking (sym f ∙ g))
+
+-- Lists that lack nothing.
+pub record Whole (sizes : Sizes) (l : Lent) : Type 0 where
+  pub range : InRange (sizes .n) (sizes .x) (sizes .z)
+  pub lists : LongLists (l .lists) (length (l .work))
+  pub x : LongHalf (sizes .n) (l .six .x)
+  pub z : LongHalf (sizes .n) (l .six .z)
+
+pub whole : (z : Sizes) (l : Lent) → lacking? z l ≡ false → Whole z l
+unfolding lacking? shortSix
+whole z l e =
+    let t = nothing-short (shortLists (l .lists) (length (l .work))) (shortHalf (l .six .x) (z .n) || shortHalf (l .six .z) (z .n)) (inRange (z .n) (z .x) (z .z)) e in
+    let h = neither (shortHalf (l .six .x) (z .n)) (shortHalf (l .six .z) (z .n)) (t .1) in
+    record {
+      range = range-out (z .n) (z .x) (z .z) (t .2);
+      lists = long-lists (l .lists) (length (l .work)) (t .0);
+      x = long-half (z .n) (l .six .x) (h .0);
+      z = long-half (z .n) (l .six .z) (h .1);
+    }
+
+----------------------------------------------------------------------
+-- Refused
+
+same-reply : (a b : Reply) → Failed a ≡ Failed b → b ≡ a
+same-reply a b e = cc
+
+module _ (budget limit : ℕ) (st : State) (l : Lent) (reply : Reply) where
+  abbrev w : Record
+  w = report budget limit
+
+  -- By the number in the table; nothing is written.
+  refuse : (n : Refusal) → Failed (saying n true st) ≡ Failed reply → ((a : History) → Represents a st (l .lists) → refusalAt w a l ≡ some n)
+      → Promised w st l l reply
+  refuse n e f =
+      record {
+        lengths = unchanged l;
+        refused = λ m i. refl;
+        carried = λ a h. rw (same-reply (saying n true st) reply e)
+            (carried w a l l (saying n true st) (some n) (f a h) refl (holds-left st (l .lists) n w a h) refl refl refl);
+      }
+
+  -- Of a complete code.
+  refuse-code : withoutCode (st .phase) ≡ false → (n : Refusal) → Failed (saying n true st) ≡ Failed reply
+      → ((c : Code) (s : Shot) → Holds c s st (l .lists) → refusalAt w (ready c s) l ≡ some n) → Promised w st l l reply
+  refuse-code t n e g = refuse n e (with-code st (l .lists) (λ a. refusalAt w a l ≡ some n) t g)
+
+  by-test : testOf budget st (lacking? (st .sizes) l) ≡ Failed reply → Promised w st l l reply
+  unfolding testOf refusal lacking?
+  by-test e =
+      bit (withoutCode (st .phase)) (λ t. refuse Codeless (rw t at e) (λ a h. rw (no-code st (l .lists) a h t)))
+      (λ t. bit (ltb 63 budget) (λ h. refuse-code t Budget (rw (t, h) at e) (λ c s v. rw h))
+      (λ h. bit (st .spoiled) (λ i. refuse-code t Spoiled (rw (t, h, i) at e) (λ c s v. rw (h, ← (v .spoiled), i)))
+      (λ i. bit (lacking? (st .sizes) l) (λ k. refuse-code t Short (rw (t, h, i, k) at e) (λ c s v.
+      let u : (shortLists (l .lists) (length (l .work)) || shortSix (l .six) (c .n)) ≡ true
+      = rw (v .sizes) at (short-of (shortLists (l .lists) (length (l .work))) (shortSix (l .six) (st .sizes .n)) (inRange (st .sizes .n) (st .sizes .x) (st .sizes .z)) k (rw (v .sizes) (v .range))) in
+      rw (h, ← (v .spoiled), i, u)))
+      (λ k. let f : Passed ≡ Failed reply = rw (t, h, i, k) at e in let z : _≡_ {A = ℕ} 0 1 = cc in absurd (omega arith)))))
+
+  pub decode-refused : (lacking : Bool) (test : Test) → lacking ≡ lacking? (st .sizes) l → test ≡ testOf budget st lacking → test ≡ Failed reply
+      → Promised w st l l reply
+  decode-refused lacking test e f g = by-test (ap (testOf budget st) (sym e) ∙ sym f ∙ g)
+
+----------------------------------------------------------------------
+-- Carried out
+
+module _ (budget limit : ℕ) (st : State) (flat ends shot shot′ work : List ℕ) (six : Six)
+    (p : Passes budget st (lacking? (st .sizes) (lentOf (held flat ends shot) work six))) (b : Begun st shot shot′) where
+  abbrev old : Lent
+  old = lentOf (held flat ends shot) work six
+
+  pub halves-fit : (1024 ≤ length shot′) × BothFit (st .sizes) budget limit (held flat ends shot′) (length work) six
+  halves-fit =
+      let o = whole (st .sizes) old (p .whole) in (
+        omega (arith, o .lists .shot, b .long),
+        both-fit (st .sizes) budget limit (held flat ends shot′) (length work) six (o .range) (ltb-false 63 budget (p .few))
+            (record { flat = o .lists .flat; ends = o .lists .ends; shot = omega (arith, o .lists .shot, b .long); work = o .lists .work }) (o .x) (o .z),
+      )
+
+  no-refusal : (c : Code) (s : Shot) → Holds c s st (old .lists) → refusalAt (report budget limit) (ready c s) old ≡ none
+  unfolding refusal lacking?
+  no-refusal c s v =
+      let t = nothing-short (shortLists (old .lists) (length work)) (shortSix six (st .sizes .n)) (inRange (st .sizes .n) (st .sizes .x) (st .sizes .z)) (p .whole) in
+      let x : shortSix six (c .n) ≡ false = rw (v .sizes) at (t .1) in
+      rw (p .few, ← (v .spoiled), p .clean, t .0, x)
+
+  module _ (work′ : List ℕ) (six′ : Six) (rep : Report) (d : Reports (st .sizes) budget limit (held flat ends shot′) work work′ six six′ rep) where
+    abbrev new : Lent
+    new = lentOf (held flat ends shot′) work′ six′
+
+    -- Of a complete code.
+    module _ (c : Code) (s : Shot) (v : Holds c s st (old .lists)) where
+      left : ShotLeft c s (old .lists) (new .lists)
+      left = left-begun c s st flat ends shot shot′ v b
+
+      same : (q : Pauli) → shownOf (givenOf q (sizesOf c) (new .lists) budget limit) ≡ outcome (half q c s) budget limit
+      same = shown-held c s (new .lists) (v .flat) (left .held) budget limit
+
+      done : (rep ≡ record { x = outcome (half X c s) budget limit .report; z = outcome (half Z c s) budget limit .report })
+          × Shows (c .n) (outcome (half X c s) budget limit) (six .x) (six′ .x) × Shows (c .n) (outcome (half Z c s) budget limit) (six .z) (six′ .z)
+      done =
+          let good : (q : Pauli) → GoodRows (givenOf q (sizesOf c) (new .lists) budget limit) = λ q. good-rows c s (new .lists) (v .flat) (left .held) budget limit q (v .good-xs .ascending) (v .good-zs .ascending) in
+          let t = (subst (λ (z : Sizes). Reports z budget limit (new .lists) work work′ six six′ rep) (v .sizes) d) .decoded (good X) (good Z) in (
+            t .0 ∙ ap₂ (λ (x z : Shown). record { x = x .report; z = z .report }) (same X) (same Z),
+            subst (λ (u : Shown). Shows (c .n) u (six .x) (six′ .x)) (same X) (t .1),
+            subst (λ (u : Shown). Shows (c .n) u (six .z) (six′ .z)) (same Z) (t .2),
+          )
+
+      decoded : Carried (report budget limit) (ready c s) old new (record { state = endedOf st; answer = Decoded rep })
+      decoded =
+          carried (report budget limit) (ready c s) old new (record { state = endedOf st; answer = Decoded rep }) none (no-refusal c s v)
+          (ap Decoded (done .0))
+          (holds-ended (openedOf st) (new .lists) (ready c s) (holds-opened c s s st flat ends shot shot′ v refl (left .held)))
+          left (done .1, done .2) (d .work-long)
+
+    pub decode-done : (r : Reply) → r ≡ record { state = endedOf st; answer = Decoded rep } → Promised (report budget limit) st old new r
+    decode-done r f =
+        record {
+          lengths = record { flat = refl; ends = refl; shot = b .long; work = d .work-long; x = d .x-long; z = d .z-long };
+          refused = λ n e. let z : _≡_ {A = ℕ} 0 1 = cc in absurd (omega arith);
+          carried = with-code st (old .lists) (λ a. Carried (report budget limit) a old new r) (p .coded) (λ c s v. rw f (decoded c s v));
+        }

@@ -1,0 +1,137 @@
+-- The two halves of a decode: what the lists hold of them, and what their decodes come to. Assumes nothing.
+use mathlib.Core.Path.{_≡_, refl, sym, ap, _∙_, subst, fun-ext}
+use mathlib.Core.Bool.{Bool, true, _&&_}
+use mathlib.Core.List.{List, _++_}
+use Prim.Native.Nat.{ℕ, _+_, _-_, _≤_}
+use native.Mathlib.Nat.{zero-add, add-assoc}
+use native.Mathlib.Omega.{arith}
+use lib.Dec.{eqb, ltb}
+use lib.ListN.{length, getD, take, drop, length-drop}
+use lib.Seq.{getD-drop, take-all}
+use borrow.Author.Tests.{le-leb}
+use Rattle.binary.specs.Meaning.{Row, All}
+use Rattle.binary.specs.Packed.{listed}
+use Rattle.binary.proofs.Bits.{and-in}
+use Rattle.code.specs.Lists.{rowsFrom, rowsBetween, Flat}
+use Rattle.code.specs.Tests.{Ascending}
+use Rattle.code.proofs.Flat.{flat-first, flat-second}
+use Rattle.machine.specs.declared.HalfReport.{HalfReport}
+use Rattle.machine.specs.Machine.{Half}
+use Rattle.machine.specs.Report.{outcome}
+use Rattle.machine.specs.Lists.{HalfLists}
+use Rattle.halves.specs.declared.HalfAnswer.{HalfAnswer}
+use Rattle.halves.specs.declared.HalfAnswer.the-variants.{Refused, Decoded}
+use Rattle.halves.specs.Lists.{halfOf}
+use Rattle.halves.specs.Decode.{Given, fitting, Decodes}
+use Rattle.records.specs.declared.Sizes.{Sizes}
+use Rattle.records.specs.declared.Report.{Report}
+use Rattle.records.specs.Records.{Pauli, X, Z, lost, lit}
+use Rattle.records.specs.History.{Code, sizesOf, Shot, half}
+use Rattle.records.specs.Lists.{Lists, Six, marks, HeldShot}
+use Rattle.records.proofs.Range.{InRange, LongLists, LongHalf}
+use Rattle.decoding.specs.Decoding.{readingsOf, givenBy, givenOf, shownOf, BothFit, GoodRows, Reports}
+
+----------------------------------------------------------------------
+-- Both decoded
+
+module _ (z : Sizes) (budget limit : ℕ) (l : Lists) (readings : List ℕ) (told : readings ≡ readingsOf (l .shot)) (work work′ : List ℕ) (x zed x′ : HalfLists)
+    (r : HalfAnswer) (fit : BothFit z budget limit l (length work) (record { x = x; z = zed })) (by : Decodes (givenBy X z l readings budget limit) work work′ x x′ r) where
+  d : Decodes (givenOf X z l budget limit) work work′ x x′ r
+  d = subst (λ (k : List ℕ). Decodes (givenBy X z l k budget limit) work work′ x x′ r) told by
+
+  pub x-decoded : {C : Type 0} → r ≡ Refused → C
+  x-decoded e = absurd (d .answered (fit .x) e)
+
+  module _ (work″ : List ℕ) (zed′ : HalfLists) (s : HalfAnswer) (then : Decodes (givenBy Z z l readings budget limit) work′ work″ zed zed′ s) where
+    f : Decodes (givenOf Z z l budget limit) work′ work″ zed zed′ s
+    f = subst (λ (k : List ℕ). Decodes (givenBy Z z l k budget limit) work′ work″ zed zed′ s) told then
+
+    z-fits : fitting (givenOf Z z l budget limit) (length work′) zed ≡ true
+    z-fits = rw (d .work-long) (fit .z)
+
+    pub z-decoded : {C : Type 0} → s ≡ Refused → C
+    z-decoded e = absurd (f .answered z-fits e)
+
+    pub both-decoded : (a b : HalfReport) → r ≡ Decoded a → s ≡ Decoded b
+        → Reports z budget limit l work work″ (record { x = x; z = zed }) (record { x = x′; z = zed′ }) (record { x = a; z = b })
+    both-decoded a b e g =
+        record {
+          work-long = f .work-long ∙ d .work-long;
+          x-long = d .lengths;
+          z-long = f .lengths;
+          decoded = λ m n. let u = d .decoded (fit .x) (m .own) (m .others) in let v = f .decoded z-fits (n .own) (n .others) in (cc, u .1, v .1);
+        }
+
+----------------------------------------------------------------------
+-- Sizes and lists fit
+
+fits-so : (g : Given) (work : ℕ) (l : HalfLists) → g .n ≤ 1024 → g .count ≤ 512 → g .others ≤ 512 → g .first ≤ 512 → g .other ≤ 512 → g .budget ≤ 63
+    → 8192 ≤ work → g .n ≤ length (g .lost) → g .first + g .count ≤ length (g .lit) → LongHalf (g .n) l → fitting g work l ≡ true
+unfolding fitting
+fits-so g work l n count others first other budget long on lights three =
+    and-in (and-in (and-in (and-in (and-in (and-in (and-in (and-in (and-in (and-in (and-in
+    (le-leb _ _ n) (le-leb _ _ count)) (le-leb _ _ others)) (le-leb _ _ first)) (le-leb _ _ other)) (le-leb _ _ budget))
+    (le-leb _ _ long)) (le-leb _ _ on)) (le-leb _ _ lights))
+    (le-leb _ _ (three .marks))) (le-leb _ _ (three .forms))) (le-leb _ _ (three .correction))
+
+-- A part up to the end.
+pub part-rest : (a : ℕ) (l : List ℕ) → take (length l - a) (drop a l) ≡ drop a l
+part-rest a l = take-all (length l - a) (drop a l) (omega (arith, length-drop a l))
+
+readings-long : (shot : List ℕ) → 2048 ≤ length shot → 1024 ≤ length (readingsOf shot)
+unfolding readingsOf
+readings-long shot h = omega (arith, length-drop 1024 shot)
+
+pub both-fit : (z : Sizes) (budget limit : ℕ) (l : Lists) (work : ℕ) (six : Six) → InRange (z .n) (z .x) (z .z) → budget ≤ 63 → LongLists l work
+    → LongHalf (z .n) (six .x) → LongHalf (z .n) (six .z) → BothFit z budget limit l work six
+both-fit z budget limit l work six m few o x-long z-long =
+    let rows = readings-long (l .shot) (o .shot) in
+    let on : z .n ≤ length (l .shot) = omega (arith, m .qubits, o .shot) in
+    record {
+      x = fits-so (givenOf X z l budget limit) work (six .x) (m .qubits) (m .zs) (m .xs) (m .xs) (omega arith) few (o .work) on (omega (arith, m .xs, m .zs)) x-long;
+      z = fits-so (givenOf Z z l budget limit) work (six .z) (m .qubits) (m .xs) (m .zs) (omega arith) (m .xs) few (o .work) on (omega (arith, m .xs)) z-long;
+    }
+
+----------------------------------------------------------------------
+-- What the lists hold of a half
+
+same-half : (n : ℕ) {rows rows′ others others′ : List Row} {f f′ g g′ : ℕ → Bool} → rows ≡ rows′ → others ≡ others′ → f ≡ f′ → g ≡ g′
+    → _≡_ {A = Half} (record { size = n; rows = rows; others = others; lost = f; lit = g }) (record { size = n; rows = rows′; others = others′; lost = f′; lit = g′ })
+same-half n a b d e = rw (a, b, d, e)
+
+listed-marks : (n : ℕ) (l : List ℕ) → listed n l ≡ marks n 0 l
+unfolding listed
+listed-marks n l = fun-ext (λ i. ap (λ (k : ℕ). ltb i n && eqb (getD l k 0) 1) (sym (zero-add i)))
+
+-- A row's element is its reading.
+readings-marks : (count first : ℕ) (shot : List ℕ) → (λ i. ltb i count && eqb (getD (readingsOf shot) (first + i) 0) 1) ≡ marks count (1024 + first) shot
+unfolding readingsOf
+readings-marks count first shot =
+    fun-ext (λ i. ap (λ (k : ℕ). ltb i count && eqb k 1) (getD-drop 1024 shot (first + i) 0 ∙ ap (λ (k : ℕ). getD shot k 0) (sym (add-assoc 1024 first i))))
+
+-- The halves of a code and shot that lists hold.
+module _ (c : Code) (s : Shot) (l : Lists) (f : Flat (c .xs ++ c .zs) (l .flat) (l .ends)) (v : HeldShot c s (l .shot)) (budget limit : ℕ) where
+  x-rows : rowsFrom (l .flat) (l .ends) 0 (length (c .xs)) ≡ c .xs
+  unfolding rowsBetween
+  x-rows =
+      let e : length (c .xs) ≡ length (c .xs) - 0 = omega arith in
+      ap (rowsFrom (l .flat) (l .ends) 0) e ∙ flat-first (c .xs) (c .zs) (l .flat) (l .ends) f (length (c .xs)) refl
+
+  z-rows : rowsFrom (l .flat) (l .ends) (length (c .xs)) (length (c .zs)) ≡ c .zs
+  unfolding rowsBetween
+  z-rows =
+      let e : length (c .zs) ≡ length (c .xs) + length (c .zs) - length (c .xs) = omega arith in
+      ap (rowsFrom (l .flat) (l .ends) (length (c .xs))) e
+      ∙ flat-second (c .xs) (c .zs) (l .flat) (l .ends) f (length (c .xs)) (length (c .xs) + length (c .zs)) refl refl
+
+  pub shown-held : (p : Pauli) → shownOf (givenOf p (sizesOf c) l budget limit) ≡ outcome (half p c s) budget limit
+  shown-held X =
+      ap (λ (h : Half). outcome h budget limit) (same-half (c .n) z-rows x-rows (listed-marks (c .n) (l .shot) ∙ sym (v .sets lost))
+      (readings-marks (length (c .zs)) (length (c .xs)) (l .shot) ∙ sym (v .sets (lit Z))))
+  shown-held Z =
+      ap (λ (h : Half). outcome h budget limit) (same-half (c .n) x-rows z-rows (listed-marks (c .n) (l .shot) ∙ sym (v .sets lost))
+      (readings-marks (length (c .xs)) 0 (l .shot) ∙ sym (v .sets (lit X))))
+
+  pub good-rows : (p : Pauli) → All (Ascending (c .n)) (c .xs) → All (Ascending (c .n)) (c .zs) → GoodRows (givenOf p (sizesOf c) l budget limit)
+  good-rows X xs zs = record { own = subst (All (Ascending (c .n))) (sym z-rows) zs; others = subst (All (Ascending (c .n))) (sym x-rows) xs }
+  good-rows Z xs zs = record { own = subst (All (Ascending (c .n))) (sym x-rows) xs; others = subst (All (Ascending (c .n))) (sym z-rows) zs }

@@ -1,0 +1,36 @@
+-- `decoding::lacking` meets its contract. Assumes nothing.
+use Rattle.records.specs.Lists.{shortSix}
+use Rattle.decoding.specs.Decoding.{lacking?}
+use borrow.Author.Needs.{needs}
+use Rattle.decoding.proofs.lacking.Statement.{statement}
+use Rattle.decoding.proofs.lacking.Tie as tie
+
+cast-n : tie.Need-cast-n
+cast-n c = search needs
+
+short-lists-requires : tie.Need-short-lists-requires
+short-lists-requires c κs = search needs
+
+short-half-requires : tie.Need-short-half-requires
+short-half-requires c κs = search needs
+
+short-half-requires-2 : tie.Need-short-half-requires-2
+short-half-requires-2 c κs = search needs
+
+in-range-requires : tie.Need-in-range-requires
+in-range-requires c κs = search needs
+
+returns : tie.Need-returns
+unfolding lacking? shortSix
+returns c = cc
+
+pub lacking-spec : {M : Type 1} → statement M
+lacking-spec =
+    tie.close
+    (tie.spec
+    cast-n
+    short-lists-requires
+    short-half-requires
+    short-half-requires-2
+    in-range-requires
+    returns)

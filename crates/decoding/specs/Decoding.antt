@@ -1,0 +1,104 @@
+-- What a decode does, beside the promise of its record.
+--   readingsOf  the part of the shot's list that has the rows' elements
+--   givenOf     what a half is decoded from: X errors from the Z rows, Z errors from the X rows
+--   lacking?    whether a list is short, or, in an altered state, the sizes are out of range
+--   testOf      the refusal that a decode meets, by the tests in the table's order
+--   BothFit     both halves are decoded
+--   Reports     what the decode of both halves does
+use mathlib.Core.Path.{_≡_}
+use mathlib.Core.Bool.{Bool, true, not, _||_, cond}
+use mathlib.Core.List.{List}
+use Prim.Native.Nat.{ℕ}
+use lib.Dec.{ltb}
+use lib.ListN.{length, drop}
+use Rattle.binary.specs.Meaning.{All}
+use Rattle.code.specs.Lists.{rowsFrom}
+use Rattle.code.specs.Tests.{Ascending}
+use Rattle.machine.specs.Report.{Shown, outcome}
+use Rattle.machine.specs.Lists.{HalfLists, Shows, SameLengths}
+use Rattle.halves.specs.Lists.{halfOf}
+use Rattle.halves.specs.Decode.{Given, fitting}
+use Rattle.records.specs.declared.Sizes.{Sizes}
+use Rattle.records.specs.declared.State.{State}
+use Rattle.records.specs.declared.Refusal.the-variants.{Codeless, Budget, Spoiled, Short}
+use Rattle.records.specs.declared.Report.{Report}
+use Rattle.records.specs.Records.{Pauli, X, Z}
+use Rattle.records.specs.Table.{inRange}
+use Rattle.records.specs.Lists.{Lists, Six, Lent, shortLists, shortSix}
+use Rattle.records.specs.States.{withoutCode, saying}
+use Rattle.decoding.specs.declared.Test.{Test}
+use Rattle.decoding.specs.declared.Test.the-variants.{Passed, Failed}
+
+----------------------------------------------------------------------
+-- The tests
+
+unfoldable pub lacking? : Sizes → Lent → Bool
+lacking? z l = shortLists (l .lists) (length (l .work)) || shortSix (l .six) (z .n) || not (inRange (z .n) (z .x) (z .z))
+
+unfoldable pub testOf : ℕ → State → Bool → Test
+testOf budget st lacking =
+    cond (withoutCode (st .phase)) (Failed (saying Codeless true st))
+    (cond (ltb 63 budget) (Failed (saying Budget true st))
+    (cond (st .spoiled) (Failed (saying Spoiled true st))
+    (cond lacking (Failed (saying Short true st))
+    Passed)))
+
+----------------------------------------------------------------------
+-- Both halves
+
+unfoldable pub readingsOf : List ℕ → List ℕ
+readingsOf shot = drop 1024 shot
+
+-- With this list of readings.
+abbrev pub givenBy : Pauli → Sizes → Lists → List ℕ → ℕ → ℕ → Given
+givenBy X z l readings budget limit = record {
+  n = z .n;
+  flat = l .flat;
+  ends = l .ends;
+  lost = l .shot;
+  lit = readings;
+  first = z .x;
+  count = z .z;
+  other = 0;
+  others = z .x;
+  budget = budget;
+  limit = limit;
+}
+givenBy Z z l readings budget limit = record {
+  n = z .n;
+  flat = l .flat;
+  ends = l .ends;
+  lost = l .shot;
+  lit = readings;
+  first = 0;
+  count = z .x;
+  other = z .x;
+  others = z .z;
+  budget = budget;
+  limit = limit;
+}
+
+abbrev pub givenOf : Pauli → Sizes → Lists → ℕ → ℕ → Given
+givenOf p z l budget limit = givenBy p z l (readingsOf (l .shot)) budget limit
+
+-- What the half shows.
+abbrev pub shownOf : Given → Shown
+shownOf g = outcome (halfOf (g .n) (g .flat) (g .ends) (g .lost) (g .lit) (g .first) (g .count) (g .other) (g .others)) (g .budget) (g .limit)
+
+pub record BothFit (sizes : Sizes) (budget limit : ℕ) (l : Lists) (work : ℕ) (six : Six) : Type 0 where
+  pub x : fitting (givenOf X sizes l budget limit) work (six .x) ≡ true
+  pub z : fitting (givenOf Z sizes l budget limit) work (six .z) ≡ true
+
+-- The half's rows and the other kind's are strictly ascending and below n.
+pub record GoodRows (g : Given) : Type 0 where
+  pub own : All (Ascending (g .n)) (rowsFrom (g .flat) (g .ends) (g .first) (g .count))
+  pub others : All (Ascending (g .n)) (rowsFrom (g .flat) (g .ends) (g .other) (g .others))
+
+pub record Reports (z : Sizes) (budget limit : ℕ) (l : Lists) (work work′ : List ℕ) (old new : Six) (r : Report) : Type 0 where
+  pub work-long : length work′ ≡ length work
+  pub x-long : SameLengths (old .x) (new .x)
+  pub z-long : SameLengths (old .z) (new .z)
+  pub decoded : GoodRows (givenOf X z l budget limit) → GoodRows (givenOf Z z l budget limit)
+      → (r ≡ record { x = shownOf (givenOf X z l budget limit) .report; z = shownOf (givenOf Z z l budget limit) .report })
+      × Shows (z .n) (shownOf (givenOf X z l budget limit)) (old .x) (new .x)
+      × Shows (z .n) (shownOf (givenOf Z z l budget limit)) (old .z) (new .z)

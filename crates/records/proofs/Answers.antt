@@ -1,0 +1,86 @@
+-- An answer, and the promise of a record, from the refusal that it meets. Assumes nothing.
+use mathlib.Core.Path.{_≡_, refl, sym, ap, _∙_}
+use mathlib.Core.Bool.{Bool, true, false, not}
+use mathlib.Core.Option.{Option, none, some}
+use mathlib.Core.List.{List}
+use Prim.Native.Nat.{ℕ}
+use lib.ListN.{length}
+use borrow.Author.Tests.{not-true, not-false}
+use Rattle.binary.proofs.Bits.{never}
+use Rattle.machine.specs.Lists.{HalfLists, SameLengths}
+use Rattle.records.specs.declared.State.{State}
+use Rattle.records.specs.declared.Refusal.{Refusal}
+use Rattle.records.specs.declared.Reply.{Reply}
+use Rattle.records.specs.Records.{Record, unknown, wrong, size, row, add, report}
+use Rattle.records.specs.History.{History}
+use Rattle.records.specs.Table.{refusal, isReport, afterwards}
+use Rattle.records.specs.Lists.{Lists, Six, Lent, lentOf, shortLists, shortSix, Represents}
+use Rattle.records.specs.States.{saying}
+use Rattle.records.specs.Promise.{answerOf, Left, Written, Unworked, refusalAt, Carried, KeptLengths, Promised}
+use Rattle.records.specs.Steps.{Answered, Does, Keeps}
+use Rattle.records.proofs.HeldStates.{holds-left}
+
+-- What a test told of a value.
+pub told-true : (t b : Bool) → t ≡ b → not t ≡ false → b ≡ true
+told-true t b e n = sym e ∙ not-false t n
+
+pub told-false : (t b : Bool) → t ≡ b → not t ≡ true → b ≡ false
+told-false t b e n = sym e ∙ not-true t n
+
+module _ (short : Bool) (six : ℕ → Bool) (w : Record) (a : History) (old : Lists) where
+  pub answered : (new : Lists) (r : Reply) (n : Option Refusal) → refusal short six w a ≡ n → r .answer ≡ answerOf n w a
+      → Represents (afterwards n w a) (r .state) new → Left n w a old new → Answered short six w a old new r
+  answered new r n e said next left = record { answer = rw e said; next = rw e next; lists = rw e left }
+
+  -- No refusal writes to a lent list.
+  pub answered-refused : (n : Refusal) (st : State) (r : Reply) → refusal short six w a ≡ some n → Represents a st old → r ≡ saying n (isReport w) st
+      → Answered short six w a old old r
+  answered-refused n st r e h is = answered old r (some n) e (rw is) (rw is (holds-left st old n w a h)) refl
+
+----------------------------------------------------------------------
+-- The promise
+
+pub same-lengths : (l : HalfLists) → SameLengths l l
+same-lengths l = record { marks = refl; forms = refl; correction = refl }
+
+pub unchanged : (l : Lent) → KeptLengths l l
+unchanged l = record { flat = refl; ends = refl; shot = refl; work = refl; x = same-lengths (l .six .x); z = same-lengths (l .six .z) }
+
+-- By the refusal, or none, that the table gives.
+pub carried : (w : Record) (a : History) (old new : Lent) (r : Reply) (n : Option Refusal) → refusalAt w a old ≡ n → r .answer ≡ answerOf n w a
+    → Represents (afterwards n w a) (r .state) (new .lists) → Left n w a (old .lists) (new .lists) → Written n w a (old .six) (new .six)
+    → Unworked n w (old .work) (new .work) → Carried w a old new r
+carried w a old new r n e answer next lists six work =
+    record { answer = rw e answer; next = rw e next; lists = rw e lists; six = rw e six; work = rw e work }
+
+-- Any record but a decode writes neither the six lists nor the work list.
+untouched : (n : Option Refusal) (w : Record) (a : History) (s : Six) → isReport w ≡ false → Written n w a s s
+untouched (some n) w a s e = refl
+untouched none unknown a s e = refl
+untouched none wrong a s e = refl
+untouched none (size n x z) a s e = refl
+untouched none (row p r) a s e = refl
+untouched none (add u k) a s e = refl
+untouched none (report budget limit) a s e = never refl e
+
+unworked : (n : Option Refusal) (w : Record) (k : List ℕ) → isReport w ≡ false → Unworked n w k k
+unworked (some n) w k e = refl
+unworked none unknown k e = refl
+unworked none wrong k e = refl
+unworked none (size n x z) k e = refl
+unworked none (row p r) k e = refl
+unworked none (add u j) k e = refl
+unworked none (report budget limit) k e = never refl e
+
+pub promised : (w : Record) (st : State) (l l′ : Lists) (work : List ℕ) (six : Six) (r : Reply) → isReport w ≡ false → Keeps l l′ r
+    → Does (shortLists l (length work)) (shortSix six) w st l l′ r → Promised w st (lentOf l work six) (lentOf l′ work six) r
+unfolding Does
+promised w st l l′ work six r i k d =
+    record {
+      lengths = record { flat = k .flat; ends = k .ends; shot = k .shot; work = refl; x = same-lengths (six .x); z = same-lengths (six .z) };
+      refused = λ n e. ap (λ (x : Lists). lentOf x work six) (k .refused n e);
+      carried = λ a h.
+          let n = refusal (shortLists l (length work)) (shortSix six) w a in
+          let t = d a h in
+          record { answer = t .answer; next = t .next; lists = t .lists; six = untouched n w a six i; work = unworked n w work i };
+    }

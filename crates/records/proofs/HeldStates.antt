@@ -1,0 +1,113 @@
+-- What states that an answer leaves hold, of any code and shot and any lists; and code or no code. Assumes nothing.
+use mathlib.Core.Path.{_≡_, refl, _∙_}
+use mathlib.Core.Bool.{Bool, true, false, cond}
+use mathlib.Core.List.{List}
+use Rattle.binary.specs.Meaning.{Row}
+use Rattle.binary.proofs.Bits.{never}
+use Rattle.records.specs.declared.Sizes.{Sizes}
+use Rattle.records.specs.declared.State.{State}
+use Rattle.records.specs.History.{Code, Shot, among, History, empty, loading, ready, emptyShot, spoil, endShot}
+use Rattle.records.specs.Table.{complete, isReport, leaves}
+use Rattle.records.specs.declared.Refusal.{Refusal}
+use Rattle.records.specs.declared.Refusal.the-variants.{Unknown, Length, Size, Place, Clash, Codeless, Range, Twice, Budget, Spoiled, Short}
+use Rattle.records.specs.Records.{Set, lost, lit, Record}
+use Rattle.records.specs.Lists.{Lists, NoShot, ShotIn, Loads, Holds, Represents}
+use Rattle.records.specs.States.{withoutCode, spoiledOf, endedOf, leftBy}
+
+-- While a code is loading there is no shot to spoil or to end.
+pub loads-any : (s : Sizes) (xs zs : List Row) (st : State) (l : Lists) (spoiled stale : Bool) → Loads s xs zs st l
+    → Loads s xs zs (record { phase = st .phase; sizes = st .sizes; rows = st .rows; clash = st .clash; spoiled = spoiled; stale = stale }) l
+loads-any s xs zs st l spoiled stale h =
+    record {
+      phase = h .phase;
+      sizes = h .sizes;
+      range = h .range;
+      rows = h .rows;
+      some-left = h .some-left;
+      x-few = h .x-few;
+      x-first = h .x-first;
+      good-xs = h .good-xs;
+      good-zs = h .good-zs;
+      flat = h .flat;
+      clash = h .clash;
+    }
+
+-- Nothing is in an empty shot.
+pub none-among : NoShot emptyShot
+none-among lost = refl
+none-among (lit p) = refl
+
+same-sets : (u : Set) (s : Shot) → among u (record { lost = s .lost; lit = s .lit; spoiled = true }) ≡ among u s
+same-sets lost s = refl
+same-sets (lit p) s = refl
+
+module _ (st : State) (l : Lists) where
+  holds-spoiled : (a : History) → Represents a st l → Represents (spoil a) (spoiledOf st) l
+  holds-spoiled empty h = h
+  holds-spoiled (loading s xs zs) h = loads-any s xs zs st l _ _ h
+  holds-spoiled (ready c s) h =
+      record {
+        phase = h .phase;
+        sizes = h .sizes;
+        range = h .range;
+        good-xs = h .good-xs;
+        good-zs = h .good-zs;
+        commute = h .commute;
+        flat = h .flat;
+        spoiled = refl;
+        shot = shot (st .stale) (h .shot);
+      }
+    where
+      shot : (b : Bool) → ShotIn b c s (l .shot) → ShotIn b c (record { lost = s .lost; lit = s .lit; spoiled = true }) (l .shot)
+      shot true i = λ u. same-sets u s ∙ i u
+      shot false i = record { sets = λ u. same-sets u s ∙ i .sets u; bits = i .bits }
+
+  pub holds-ended : (a : History) → Represents a st l → Represents (endShot a) (endedOf st) l
+  holds-ended empty h = h
+  holds-ended (loading s xs zs) h = loads-any s xs zs st l _ _ h
+  holds-ended (ready c s) h =
+      record {
+        phase = h .phase;
+        sizes = h .sizes;
+        range = h .range;
+        good-xs = h .good-xs;
+        good-zs = h .good-zs;
+        commute = h .commute;
+        flat = h .flat;
+        spoiled = refl;
+        shot = none-among;
+      }
+
+  holds-short : (w : Record) (b : Bool) → isReport w ≡ b → (a : History) → Represents a st l → Represents (cond b (endShot a) a) (cond b (endedOf st) st) l
+  holds-short w true e a h = holds-ended a h
+  holds-short w false e a h = h
+
+  -- A refusal leaves the code and shot that the table says.
+  pub holds-left : (n : Refusal) (w : Record) (a : History) → Represents a st l → Represents (leaves n w a) (leftBy n (isReport w) st) l
+  holds-left Unknown w a h = holds-spoiled a h
+  holds-left Length w a h = holds-spoiled a h
+  holds-left Size w a h = refl
+  holds-left Place w a h = refl
+  holds-left Refusal.Row w a h = refl
+  holds-left Clash w a h = refl
+  holds-left Codeless w a h = h
+  holds-left Range w a h = holds-spoiled a h
+  holds-left Twice w a h = holds-spoiled a h
+  holds-left Budget w a h = holds-ended a h
+  holds-left Spoiled w a h = holds-ended a h
+  holds-left Short w a h = holds-short w (isReport w) refl a h
+
+----------------------------------------------------------------------
+-- Code or no code
+
+pub no-code : (st : State) (l : Lists) (a : History) → Represents a st l → withoutCode (st .phase) ≡ true → complete a ≡ false
+no-code st l empty h e = refl
+no-code st l (loading s xs zs) h e = refl
+no-code st l (ready c s) h e = never (rw (h .phase) at e) refl
+
+-- What holds of each complete code with its shot holds of the history.
+pub with-code : (st : State) (l : Lists) (P : History → Type 0) → withoutCode (st .phase) ≡ false → ((c : Code) (s : Shot) → Holds c s st l → P (ready c s))
+    → (a : History) → Represents a st l → P a
+with-code st l P e f empty h = never refl (rw h at e)
+with-code st l P e f (loading s xs zs) h = never refl (rw (h .phase) at e)
+with-code st l P e f (ready c s) h = f c s h

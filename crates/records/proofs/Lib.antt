@@ -1,0 +1,3 @@
+pub mod HeldStates
+pub mod Answers
+pub mod Range

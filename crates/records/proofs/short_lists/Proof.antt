@@ -1,0 +1,12 @@
+-- `records::short_lists` meets its contract. Assumes nothing.
+use mathlib.Core.Path.{refl}
+use Rattle.records.specs.Lists.{shortLists}
+use Rattle.records.proofs.short_lists.Statement.{statement}
+use Rattle.records.proofs.short_lists.Tie as tie
+
+returns : tie.Need-returns
+unfolding shortLists
+returns c = refl
+
+pub short-lists-spec : {M : Type 1} → statement M
+short-lists-spec = tie.close (tie.spec returns)

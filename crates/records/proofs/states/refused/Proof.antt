@@ -1,0 +1,16 @@
+-- `records::states::refused` meets its contract. Assumes nothing.
+use mathlib.Core.Path.{ap}
+use Rattle.records.specs.declared.State.{State}
+use Rattle.records.specs.declared.Answer.the-variants.{Refused}
+use borrow.Author.Needs.{needs}
+use Rattle.records.proofs.states.refused.Statement.{statement}
+use Rattle.records.proofs.states.refused.Tie as tie
+
+left-requires : tie.Need-left-requires
+left-requires c κs = search needs
+
+returns : tie.Need-returns
+returns c = ap (λ (x : State). record { state = x; answer = Refused (c .before .args .why) }) (c .left .ensures)
+
+pub refused-spec : {M : Type 1} → statement M
+refused-spec = tie.close (tie.spec left-requires returns)

@@ -1,0 +1,155 @@
+-- What one record promises, for every input (document 01, "Records" and "Lists lent to a decode").
+--   answerOf    the answer to a record
+--   Left        what an answer leaves in the lists of code and shot
+--   Written     what an answer leaves in the six lists; Unworked: in the work list
+--   refusalAt   the refusal that a record meets at a code and shot, with these lists lent
+--   Promised    what a record promises; Promise: the promise of `step`, of the record that the bytes are
+use mathlib.Core.Path.{_≡_}
+use mathlib.Core.Logic.{_⊎_}
+use mathlib.Core.Option.{Option, none, some}
+use mathlib.Core.List.{List}
+use Prim.Native.Nat.{ℕ, _+_, _≤_, _<_}
+use lib.ListN.{length, getD, set}
+use Rattle.binary.specs.Meaning.{Row}
+use Rattle.code.specs.Lists.{startOf}
+use Rattle.code.specs.Push.{written}
+use Rattle.machine.specs.Report.{outcome}
+use Rattle.machine.specs.Lists.{Shows, SameLengths}
+use Rattle.records.specs.declared.State.{State}
+use Rattle.records.specs.declared.Refusal.{Refusal}
+use Rattle.records.specs.declared.Answer.{Answer}
+use Rattle.records.specs.declared.Answer.the-variants.{Refused, Taken, Complete, Decoded}
+use Rattle.records.specs.declared.Reply.{Reply}
+use Rattle.records.specs.Records.{X, Z, Record, unknown, wrong, size, row, add, report, recordOf}
+use Rattle.records.specs.History.{Code, rowCount, sizesOf, Shot, History, empty, loading, ready, half}
+use Rattle.records.specs.Table.{refusal, takes, afterwards}
+use Rattle.records.specs.Lists.{Lists, Six, Lent, shortLists, shortSix, HeldShot, Represents}
+
+----------------------------------------------------------------------
+-- The answer
+
+-- A complete code is told with its sizes.
+abbrev pub completed : History → Answer
+completed empty = Taken
+completed (loading s xs zs) = Taken
+completed (ready c s) = Complete (sizesOf c)
+
+abbrev pub reportOf : ℕ → ℕ → History → Answer
+reportOf budget limit empty = Taken
+reportOf budget limit (loading s xs zs) = Taken
+reportOf budget limit (ready c s) =
+    Decoded (record { x = outcome (half X c s) budget limit .report; z = outcome (half Z c s) budget limit .report })
+
+abbrev pub carriedOut : Record → History → Answer
+carriedOut unknown a = Taken
+carriedOut wrong a = Taken
+carriedOut (size n x z) a = completed (takes (size n x z) a)
+carriedOut (row p r) a = completed (takes (row p r) a)
+carriedOut (add u k) a = Taken
+carriedOut (report budget limit) a = reportOf budget limit a
+
+abbrev pub answerOf : Option Refusal → Record → History → Answer
+answerOf (some n) r a = Refused n
+answerOf none r a = carriedOut r a
+
+----------------------------------------------------------------------
+-- What the answer leaves
+
+-- How many rows have come.
+abbrev pub rowsIn : History → ℕ
+rowsIn empty = 0
+rowsIn (loading s xs zs) = length xs + length zs
+rowsIn (ready c s) = rowCount c
+
+-- A row is written after those before it, with its end.
+pub record RowIn (r : Row) (i : ℕ) (old new : Lists) : Type 0 where
+  pub flat : new .flat ≡ written (old .flat) (startOf (old .ends) i) r
+  pub ends : new .ends ≡ set (old .ends) i (startOf (old .ends) i + length r)
+  pub shot : new .shot ≡ old .shot
+
+-- The shot's list holds the shot; past the qubits and rows of the code, and in the lists of the code, nothing changes.
+pub record ShotLeft (c : Code) (s : Shot) (old new : Lists) : Type 0 where
+  pub flat : new .flat ≡ old .flat
+  pub ends : new .ends ≡ old .ends
+  pub held : HeldShot c s (new .shot)
+  pub rest : (k : ℕ) → c .n ≤ k → (k < 1024) ⊎ (1024 + rowCount c ≤ k) → getD (new .shot) k 0 ≡ getD (old .shot) k 0
+
+abbrev pub ShotOf : History → Lists → Lists → Type 0
+ShotOf empty old new = new ≡ old
+ShotOf (loading s xs zs) old new = new ≡ old
+ShotOf (ready c s) old new = ShotLeft c s old new
+
+-- A decode leaves the shot that it decoded in the lists; the state says that it has ended.
+abbrev pub LeftBy : Record → History → Lists → Lists → Type 0
+LeftBy unknown a old new = new ≡ old
+LeftBy wrong a old new = new ≡ old
+LeftBy (size n x z) a old new = new ≡ old
+LeftBy (row p r) a old new = RowIn r (rowsIn a) old new
+LeftBy (add u k) a old new = ShotOf (takes (add u k) a) old new
+LeftBy (report budget limit) a old new = ShotOf a old new
+
+-- No refusal writes to a lent list.
+abbrev pub Left : Option Refusal → Record → History → Lists → Lists → Type 0
+Left (some n) r a old new = new ≡ old
+Left none r a old new = LeftBy r a old new
+
+abbrev pub Shown : ℕ → ℕ → History → Six → Six → Type 0
+Shown budget limit empty old new = new ≡ old
+Shown budget limit (loading s xs zs) old new = new ≡ old
+Shown budget limit (ready c s) old new =
+    Shows (c .n) (outcome (half X c s) budget limit) (old .x) (new .x) × Shows (c .n) (outcome (half Z c s) budget limit) (old .z) (new .z)
+
+abbrev pub WrittenBy : Record → History → Six → Six → Type 0
+WrittenBy unknown a old new = new ≡ old
+WrittenBy wrong a old new = new ≡ old
+WrittenBy (size n x z) a old new = new ≡ old
+WrittenBy (row p r) a old new = new ≡ old
+WrittenBy (add u k) a old new = new ≡ old
+WrittenBy (report budget limit) a old new = Shown budget limit a old new
+
+abbrev pub Written : Option Refusal → Record → History → Six → Six → Type 0
+Written (some n) r a old new = new ≡ old
+Written none r a old new = WrittenBy r a old new
+
+-- A work list may hold anything after a decode; no other record writes it.
+abbrev pub Unworked : Option Refusal → Record → List ℕ → List ℕ → Type 0
+Unworked (some n) r old new = new ≡ old
+Unworked none unknown old new = new ≡ old
+Unworked none wrong old new = new ≡ old
+Unworked none (size n x z) old new = new ≡ old
+Unworked none (row p r) old new = new ≡ old
+Unworked none (add u k) old new = new ≡ old
+Unworked none (report budget limit) old new = length new ≡ length old
+
+----------------------------------------------------------------------
+-- The promise
+
+-- The refusal that a record meets at this code and shot, with these lists lent.
+abbrev pub refusalAt : Record → History → Lent → Option Refusal
+refusalAt w a l = refusal (shortLists (l .lists) (length (l .work))) (shortSix (l .six)) w a
+
+pub record Carried (w : Record) (a : History) (old new : Lent) (r : Reply) : Type 0 where
+  pub answer : r .answer ≡ answerOf (refusalAt w a old) w a
+  pub next : Represents (afterwards (refusalAt w a old) w a) (r .state) (new .lists)
+  pub lists : Left (refusalAt w a old) w a (old .lists) (new .lists)
+  pub six : Written (refusalAt w a old) w a (old .six) (new .six)
+  pub work : Unworked (refusalAt w a old) w (old .work) (new .work)
+
+pub record KeptLengths (old new : Lent) : Type 0 where
+  pub flat : length (new .lists .flat) ≡ length (old .lists .flat)
+  pub ends : length (new .lists .ends) ≡ length (old .lists .ends)
+  pub shot : length (new .lists .shot) ≡ length (old .lists .shot)
+  pub work : length (new .work) ≡ length (old .work)
+  pub x : SameLengths (old .six .x) (new .six .x)
+  pub z : SameLengths (old .six .z) (new .six .z)
+
+-- For every input the lists keep their lengths, and no refusal writes to a lent list; and for whatever code and shot the state and the lists
+-- hold, the answer, every lent element and the code and shot afterwards are the table's. Over altered lists or an altered state nothing else
+-- is promised.
+pub record Promised (w : Record) (st : State) (old new : Lent) (r : Reply) : Type 0 where
+  pub lengths : KeptLengths old new
+  pub refused : (n : Refusal) → r .answer ≡ Refused n → new ≡ old
+  pub carried : (a : History) → Represents a st (old .lists) → Carried w a old new r
+
+abbrev pub Promise : State → List ℕ → Lent → Lent → Reply → Type 0
+Promise st bytes old new r = Promised (recordOf bytes) st old new r

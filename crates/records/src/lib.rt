@@ -1,0 +1,142 @@
+// Records, as document 01 means them (specs/): what a call hands over and hands back, and the states that answers leave.
+mod states;
+
+ghost use mathlib.Core.Path.{_≡_};
+ghost use lib.ListN.{length};
+ghost use Rattle.records.specs.Table.{refusalNumber, inRange};
+ghost use Rattle.records.specs.Lists.{held, shortLists};
+ghost use Rattle.records.specs.States.{freshState, withoutCode};
+use machine::HalfReport;
+pub use states::ended;
+pub use states::opened;
+pub use states::refused;
+
+// Why a record is refused (document 01, the table).
+pub enum Refusal {
+    Unknown,
+    Length,
+    Size,
+    Place,
+    Row,
+    Clash,
+    Codeless,
+    Range,
+    Twice,
+    Budget,
+    Spoiled,
+    Short,
+}
+
+// A code's sizes: qubits, X rows, Z rows.
+pub struct Sizes {
+    pub n: u16,
+    pub x: u16,
+    pub z: u16,
+}
+
+// What a decode reports of its two halves.
+pub struct Report {
+    pub x: HalfReport,
+    pub z: HalfReport,
+}
+
+// The answer to a record: a refusal, or that it was carried out; of the last row with the code's sizes, of a decode with its report.
+pub enum Answer {
+    Refused(Refusal),
+    Taken,
+    Complete(Sizes),
+    Decoded(Report),
+}
+
+// Whether there is a code: none, one that is loading, or one that is complete, with an open shot.
+pub enum Phase {
+    Empty,
+    Loading,
+    Ready,
+}
+
+// What passes from call to call beside the lists: the sizes announced, the rows taken so far, whether some X and Z rows among them share an
+// odd number of qubits, whether the shot is spoiled, and whether the shot is empty, whatever an earlier one left in its list.
+pub struct State {
+    pub phase: Phase,
+    pub sizes: Sizes,
+    pub rows: u16,
+    pub clash: bool,
+    pub spoiled: bool,
+    pub stale: bool,
+}
+
+// What a call hands back.
+pub struct Reply {
+    pub state: State,
+    pub answer: Answer,
+}
+
+// The table's number of a refusal.
+pub fn refusal_number(r: Refusal) -> u8
+    ensures { λ n. ⌜ n ≡ refusalNumber r ⌝ }
+{
+    match r {
+        Refusal::Unknown => 1,
+        Refusal::Length => 2,
+        Refusal::Size => 3,
+        Refusal::Place => 4,
+        Refusal::Row => 5,
+        Refusal::Clash => 6,
+        Refusal::Codeless => 7,
+        Refusal::Range => 8,
+        Refusal::Twice => 9,
+        Refusal::Budget => 10,
+        Refusal::Spoiled => 11,
+        Refusal::Short => 12,
+    }
+}
+
+// At a fresh start there is no code and no shot.
+pub fn fresh() -> State
+    ensures { λ r. ⌜ r ≡ freshState ⌝ }
+{
+    State {
+        phase: Phase::Empty,
+        sizes: Sizes { n: 0, x: 0, z: 0 },
+        rows: 0,
+        clash: false,
+        spoiled: false,
+        stale: false,
+    }
+}
+
+// Whether sizes are in range.
+pub fn in_range(n: u16, x: u16, z: u16) -> bool
+    ensures { λ r. ⌜ r ≡ inRange n x z ⌝ }
+{
+    if n < 1 {
+        return false;
+    }
+    if 1024 < n {
+        return false;
+    }
+    if 512 < x {
+        return false;
+    }
+    z <= 512
+}
+
+// Whether there is no complete code.
+pub fn codeless(st: State) -> bool
+    ensures { λ r. ⌜ r ≡ withoutCode (st .phase) ⌝ }
+{
+    let phase = st.phase;
+    match phase {
+        Phase::Empty => true,
+        Phase::Loading => true,
+        Phase::Ready => false,
+    }
+}
+
+// Whether a list of code, shot or work is below its least length.
+pub fn short_lists(flat: &[u16], ends: &[u16], shot: &[u8], work: &[u64]) -> bool
+    ensures { λ r. ⌜ r ≡ shortLists (held (now (flat .entry)) (now (ends .entry)) (now (shot .entry))) (length (now (work .entry))) ⌝ }
+{
+    (flat.len() < 16384) | (ends.len() < 1024) | (shot.len() < 2048) | (work.len() < 8192)
+}

@@ -1,0 +1,135 @@
+-- `stream::take::take` meets its contract, kind by kind. Assumes nothing.
+use native.Mathlib.Omega.{arith}
+use Rattle.stream.proofs.Taking.{at-size, at-row, at-lose, at-light, take-unknown, take-length, take-size, take-row, take-lose, take-light, take-no-decode}
+use borrow.Author.Needs.{needs}
+use Rattle.stream.proofs.take.take.Statement.{statement}
+use Rattle.stream.proofs.take.take.Tie as tie
+
+enum-told : tie.Need-enum-told
+enum-told c = search needs
+
+refused-requires : tie.Need-refused-requires
+refused-requires c κs = search needs
+
+enum-told-2 : tie.Need-enum-told-2
+enum-told-2 c = search needs
+
+refused-requires-2 : tie.Need-refused-requires-2
+refused-requires-2 c κs = search needs
+
+enum-told-3 : tie.Need-enum-told-3
+enum-told-3 c = search needs
+
+number-requires : tie.Need-number-requires
+number-requires c κs = omega (arith, at-size _ _ (c .before .before .before .before .before .before .pre .0) (c .enum-told3 .given .1) .1)
+
+number-requires-2 : tie.Need-number-requires-2
+number-requires-2 c κs = omega (arith, at-size _ _ (c .before .before .before .before .before .before .before .pre .0) (c .before .enum-told3 .given .1) .1)
+
+number-requires-3 : tie.Need-number-requires-3
+number-requires-3 c κs = omega (arith, at-size _ _ (c .before .before .before .before .before .before .before .before .pre .0) (c .before .before .enum-told3 .given .1) .1)
+
+take-sizes-requires : tie.Need-take-sizes-requires
+take-sizes-requires c κs = search needs
+
+enum-known-shape : tie.Need-enum-known-shape
+enum-known-shape c = search needs
+
+cast-read-row : tie.Need-cast-read-row
+cast-read-row c = search needs
+
+read-row-requires : tie.Need-read-row-requires
+read-row-requires c κs = let z = at-row _ _ (c .before .before .before .before .before .before .before .before .before .pre .0) _ _ (c .before .before .before .shape .given .1) in (z .2, omega (arith, z .1))
+
+enum-told-4 : tie.Need-enum-told-4
+enum-told-4 c = search needs
+
+number-requires-4 : tie.Need-number-requires-4
+number-requires-4 c κs = omega (arith, at-lose _ _ (c .before .before .before .before .before .before .pre .0) (c .enum-told4 .given .1) .1)
+
+lose-requires : tie.Need-lose-requires
+lose-requires c κs = search needs
+
+enum-known-shape-2 : tie.Need-enum-known-shape-2
+enum-known-shape-2 c = search needs
+
+number-requires-5 : tie.Need-number-requires-5
+number-requires-5 c κs = omega (arith, at-light _ _ (c .before .before .before .before .before .before .before .pre .0) _ (c .before .shape2 .given .1) .1)
+
+light-requires : tie.Need-light-requires
+light-requires c κs = search needs
+
+enum-told-5 : tie.Need-enum-told-5
+enum-told-5 c = search needs
+
+refused-requires-3 : tie.Need-refused-requires-3
+refused-requires-3 c κs = search needs
+
+returns : tie.Need-returns
+returns c = take-unknown _ _ (c .before .before .before .before .before .before .before .pre .0) (c .before .enum-told .given .1) _ _ _ _ (c .refused .ensures)
+
+returns-2 : tie.Need-returns-2
+returns-2 c = take-length _ _ (c .before .before .before .before .before .before .before .pre .0) (c .before .enum-told2 .given .1) _ _ _ _ (c .refused2 .ensures)
+
+returns-3 : tie.Need-returns-3
+returns-3 c = take-size _ _ (c .before .before .before .before .before .before .before .before .before .before .pre .0) _ _ _ _ _ _ (c .before .before .before .before .enum-told3 .given .1) _ _ _ (c .before .before .before .number .ensures) (c .before .before .number2 .ensures) (c .before .number3 .ensures) (c .take-sizes .ensures)
+
+same-length : tie.Need-same-length
+same-length c = search needs
+
+same-length-2 : tie.Need-same-length-2
+same-length-2 c = search needs
+
+returns-4 : tie.Need-returns-4
+returns-4 c = take-row _ _ (c .before .before .before .before .before .before .before .before .before .before .before .before .before .before .pre .0) _ _ _ _ _ _ _ _ (c .before .before .before .before .before .before .before .before .shape .given .1) _ _ (c .before .before .before .before .read-row .ensures)
+
+same-length-3 : tie.Need-same-length-3
+same-length-3 c = search needs
+
+returns-5 : tie.Need-returns-5
+returns-5 c = take-lose _ _ (c .before .before .before .before .before .before .before .before .before .before .before .pre .0) _ _ _ _ _ _ (c .before .before .before .before .before .enum-told4 .given .1) _ (c .before .before .before .before .number4 .ensures) _ (c .before .before .lose .ensures)
+
+same-length-4 : tie.Need-same-length-4
+same-length-4 c = search needs
+
+returns-6 : tie.Need-returns-6
+returns-6 c = take-light _ _ (c .before .before .before .before .before .before .before .before .before .before .before .before .pre .0) _ _ _ _ _ _ _ (c .before .before .before .before .before .before .shape2 .given .1) _ (c .before .before .before .before .number5 .ensures) _ (c .before .before .light .ensures)
+
+returns-7 : tie.Need-returns-7
+returns-7 c = take-no-decode _ _ (c .before .before .before .before .before .before .before .pre .0) (c .before .before .before .before .before .before .before .pre .1) (c .before .enum-told5 .given .1)
+
+pub take-spec : {M : Type 1} → statement M
+take-spec =
+    tie.close
+    (tie.spec
+    enum-told
+    refused-requires
+    enum-told-2
+    refused-requires-2
+    enum-told-3
+    number-requires
+    number-requires-2
+    number-requires-3
+    take-sizes-requires
+    enum-known-shape
+    cast-read-row
+    read-row-requires
+    enum-told-4
+    number-requires-4
+    lose-requires
+    enum-known-shape-2
+    number-requires-5
+    light-requires
+    enum-told-5
+    refused-requires-3
+    returns
+    returns-2
+    returns-3
+    same-length
+    same-length-2
+    returns-4
+    same-length-3
+    returns-5
+    same-length-4
+    returns-6
+    returns-7)
