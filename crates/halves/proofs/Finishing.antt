@@ -1,19 +1,22 @@
 -- What a half leaves in its lists, by its word. Assumes nothing.
 use mathlib.Core.Path.{_≡_, refl, _∙_}
 use mathlib.Core.Bool.{true, false, cond}
+use mathlib.Core.Logic.{inr}
 use mathlib.Core.List.{List}
-use Prim.Native.Nat.{ℕ, _%_}
+use Prim.Native.Nat.{ℕ, _%_, zero-le}
 use lib.ListN.{getD}
 use Rattle.binary.proofs.Bits.{never}
 use Rattle.machine.specs.declared.Word.{Word}
 use Rattle.machine.specs.declared.Word.the-variants.{Certain, Unsure, None, Spent, Stopped}
-use Rattle.machine.specs.declared.HalfReport.{HalfReport}
-use Rattle.halves.specs.declared.Ended.{Ended}
 use Rattle.machine.specs.Words.{finished?}
-use Rattle.machine.specs.Report.{marked, none?}
-use Rattle.machine.specs.Lists.{view}
-use Rattle.halves.specs.Scans.{Filled}
-use Rattle.halves.specs.Starts.{reportBy, Finished}
+use Rattle.machine.specs.Report.{none?}
+use Rattle.lists.specs.Cleared.{Cleared}
+use Rattle.halves.specs.Fills.{Filled}
+use Rattle.halves.specs.Starts.{Finished}
+
+-- A list that is cleared from its start.
+pub zero-filled : (n : ℕ) (l l′ : List ℕ) → Cleared 0 n l l′ → Filled (λ q. 0) n l l′
+zero-filled n l l′ d = record { long = d .long; first = λ q i. d .inside q zero-le i; rest = λ q i. d .outside q (inr i) }
 
 -- A list that is not written, and one written by a function that agrees.
 same-filled : (f : ℕ → ℕ) (n : ℕ) (l : List ℕ) → ((q : ℕ) → getD l q 0 ≡ f q) → Filled f n l l
@@ -45,21 +48,20 @@ module _ (n : ℕ) (w : Word) (marks forms correction : List ℕ) where
         correction = as-filled (λ q. getD forms q 0 % 2) (λ q. cond (finished? w) (getD forms q 0 % 2) 0) n correction correction′ (λ q. rw e) f;
       }
 
-  module _ (correction′ : List ℕ) (e : finished? w ≡ false) (f : Filled (λ q. 0) n correction correction′) where
+  module _ (correction′ : List ℕ) (e : finished? w ≡ false) (d : Cleared 0 n correction correction′) where
+    f : Filled (λ q. 0) n correction correction′
+    f = zero-filled n correction correction′ d
+
     blank : Filled (λ q. cond (finished? w) (getD forms q 0 % 2) 0) n correction correction′
     blank = as-filled (λ q. 0) (λ q. cond (finished? w) (getD forms q 0 % 2) 0) n correction correction′ (λ q. rw e) f
 
     pub finish-open : none? w ≡ false → Done marks forms correction′
     finish-open i = record { marks = kept marks i; forms = kept forms i; correction = blank }
 
-    pub finish-none : (marks′ forms′ : List ℕ) → none? w ≡ true → Filled (λ q. 0) n marks marks′ → Filled (λ q. 0) n forms forms′ → Done marks′ forms′ correction′
+    pub finish-none : (marks′ forms′ : List ℕ) → none? w ≡ true → Cleared 0 n marks marks′ → Cleared 0 n forms forms′ → Done marks′ forms′ correction′
     finish-none marks′ forms′ i m g =
         record {
-          marks = as-filled (λ q. 0) (λ q. cond (none? w) 0 (getD marks q 0)) n marks marks′ (λ q. rw i) m;
-          forms = as-filled (λ q. 0) (λ q. cond (none? w) 0 (getD forms q 0)) n forms forms′ (λ q. rw i) g;
+          marks = as-filled (λ q. 0) (λ q. cond (none? w) 0 (getD marks q 0)) n marks marks′ (λ q. rw i) (zero-filled n marks marks′ m);
+          forms = as-filled (λ q. 0) (λ q. cond (none? w) 0 (getD forms q 0)) n forms forms′ (λ q. rw i) (zero-filled n forms forms′ g);
           correction = blank;
         }
-
-pub report-is : (n : ℕ) (e : Ended) (marks : List ℕ) (x y : ℕ) → x ≡ marked n (view n marks) 1 → y ≡ marked n (view n marks) 3
-    → _≡_ {A = HalfReport} (record { word = e .word; fixed = x; turns = e .turns; guesses = y; live = e .live }) (reportBy n e marks)
-report-is n e marks x y a b = λ i. record { word = e .word; fixed = a i; turns = e .turns; guesses = b i; live = e .live }

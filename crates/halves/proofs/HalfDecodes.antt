@@ -1,5 +1,5 @@
 -- The lists that a half's decode leaves show the machine's outcome. Assumes nothing.
-use mathlib.Core.Path.{_≡_, refl, sym, ap, ap₂, _∙_}
+use mathlib.Core.Path.{_≡_, refl, sym, ap, ap₂, _∙_, subst}
 use mathlib.Core.Bool.{Bool, true, false, not, _&&_, cond}
 use mathlib.Core.Logic.{⊎-elim}
 use mathlib.Core.List.{List}
@@ -8,24 +8,29 @@ use native.Mathlib.Nat.{div-one, eq-zero-or-pos}
 use native.Mathlib.Omega.{arith}
 use lib.Dec.{eqb, leb}
 use lib.ListN.{length, getD}
-use borrow.Author.Tests.{lt-ltb, leb-true}
+use borrow.Author.Tests.{lt-ltb, le-leb, leb-true}
 use Rattle.binary.specs.Packed.{bit}
-use Rattle.binary.proofs.Bits.{bit as cases, never, and-out}
+use Rattle.binary.proofs.Bits.{bit as cases, never, and-out, and-in}
 use Rattle.binary.proofs.WordBits.{bit-zero}
 use Rattle.machine.specs.declared.Word.{Word}
 use Rattle.machine.specs.declared.HalfReport.{HalfReport}
 use Rattle.halves.specs.declared.HalfAnswer.the-variants.{Refused, Decoded}
-use Rattle.halves.specs.declared.Ended.{Ended}
 use Rattle.machine.specs.Words.{finished?}
 use Rattle.machine.specs.Machine.{Form, End, decoded}
 use Rattle.machine.specs.Fillings.{filling}
-use Rattle.machine.specs.Report.{marked, none?, report, shown}
+use Rattle.machine.specs.Report.{none?, shown}
 use Rattle.machine.specs.Lists.{view, HalfLists, digit, Shows}
 use Rattle.halves.specs.Decode.{Given, fitting, Decodes}
-use Rattle.halves.specs.Turns.{RowLists, Qubitwise, EndedAs}
-use Rattle.halves.specs.Starts.{halfIn, HalfRun, reportBy, Finished, fits?, HalfDone}
+use Rattle.turns.specs.declared.RunAnswer.{RunAnswer}
+use Rattle.turns.specs.declared.RunAnswer.the-variants.{Over}
+use Rattle.turns.specs.declared.RunAnswer.the-variants as turns-answer
+use Rattle.turns.specs.Turns.{RowLists, Qubitwise, Kept}
+use Rattle.turns.specs.Runs.{Ran, Runs}
+use Rattle.turns.specs.Runs as runs
+use Rattle.halves.specs.Starts.{halfIn, Started, Finished, fits?, HalfDone}
 use Rattle.machine.proofs.Values.{value-off}
 use Rattle.halves.proofs.Finishing.{not-none}
+use Rattle.halves.proofs.HalfRuns.{decoded-is}
 
 digit-constant : (x : ℕ) → x % 2 ≡ digit (bit x 0)
 unfolding bit
@@ -37,8 +42,11 @@ digit-constant x = ⊎-elim (λ (e : x % 2 ≡ 0). e ∙ ap digit (sym (low e)))
     high : x % 2 ≡ 1 → eqb (x / 2 ^ 0 % 2) 1 ≡ true
     high e = ap (λ (y : ℕ). eqb (y % 2) 1) (div-one x) ∙ ap (λ (y : ℕ). eqb y 1) e
 
-module _ (n : ℕ) (old mid : Qubitwise) (correction : List ℕ) (new : HalfLists) (r : Ended) (e : End) (v : EndedAs n old mid r e)
+module _ (n : ℕ) (old mid : Qubitwise) (correction : List ℕ) (new : HalfLists) (r : HalfReport) (e : End) (k : Kept n old mid) (v : Ran n mid r e)
     (f : Finished n (r .word) (record { marks = mid .marks; forms = mid .forms; correction = correction }) new) where
+  word : r .word ≡ e .word
+  word = ap (λ (h : HalfReport). h .word) (v .report)
+
   at : (l : List ℕ) (q : ℕ) → q < n → view n l q ≡ getD l q 0
   at l q i = rw (lt-ltb q n i)
 
@@ -48,17 +56,17 @@ module _ (n : ℕ) (old mid : Qubitwise) (correction : List ℕ) (new : HalfList
   marks-shown : (q : ℕ) → q < n → getD (new .marks) q 0 ≡ cond (none? (e .word)) 0 (e .state .mark q)
   marks-shown q i =
       f .marks .first q i
-      ∙ ap₂ (λ (w : Word) (x : ℕ). cond (none? w) 0 x) (v .word) (sym (at (mid .marks) q i) ∙ ap (λ (g : ℕ → ℕ). g q) (v .marks))
+      ∙ ap₂ (λ (w : Word) (x : ℕ). cond (none? w) 0 x) word (sym (at (mid .marks) q i) ∙ ap (λ (g : ℕ → ℕ). g q) (v .marks))
 
   forms-shown : (q : ℕ) → q < n → (k : ℕ) → bit (getD (new .forms) q 0) k ≡ (not (none? (e .word)) && e .state .forms .form q k)
   forms-shown q i k =
-      ap (λ (x : ℕ). bit x k) (f .forms .first q i ∙ ap (λ (w : Word). cond (none? w) 0 (getD (mid .forms) q 0)) (v .word))
+      ap (λ (x : ℕ). bit x k) (f .forms .first q i ∙ ap (λ (w : Word). cond (none? w) 0 (getD (mid .forms) q 0)) word)
       ∙ cases (none? (e .word)) (λ j. rw j (bit-zero k)) (λ j. rw j (form-at j q i k))
 
   flips-shown : (q : ℕ) → q < n → getD (new .correction) q 0
       ≡ digit (finished? (e .word) && filling (e .state .forms .live) (e .state .forms .form) (λ k. false) q)
   flips-shown q i =
-      f .correction .first q i ∙ ap (λ (w : Word). cond (finished? w) (getD (mid .forms) q 0 % 2) 0) (v .word)
+      f .correction .first q i ∙ ap (λ (w : Word). cond (finished? w) (getD (mid .forms) q 0 % 2) 0) word
       ∙ cases (finished? (e .word))
       (λ j. rw j (digit-constant (getD (mid .forms) q 0)
       ∙ ap digit (form-at (not-none (e .word) j) q i 0 ∙ sym (value-off (e .state .forms .live) (e .state .forms .form q)))))
@@ -72,33 +80,51 @@ module _ (n : ℕ) (old mid : Qubitwise) (correction : List ℕ) (new : HalfList
         marks = marks-shown;
         forms = forms-shown;
         correction = flips-shown;
-        marks-rest = λ q i. f .marks .rest q i ∙ v .kept .marks-rest q i ∙ ap (λ (l : Qubitwise). getD (l .marks) q 0) same;
-        forms-rest = λ q i. f .forms .rest q i ∙ v .kept .forms-rest q i ∙ ap (λ (l : Qubitwise). getD (l .forms) q 0) same;
+        marks-rest = λ q i. f .marks .rest q i ∙ k .marks-rest q i ∙ ap (λ (l : Qubitwise). getD (l .marks) q 0) same;
+        forms-rest = λ q i. f .forms .rest q i ∙ k .forms-rest q i ∙ ap (λ (l : Qubitwise). getD (l .forms) q 0) same;
         correction-rest = λ q i. f .correction .rest q i;
       }
 
-  pub ended-report : reportBy n r (mid .marks) ≡ shown n e .report
-  unfolding shown
-  ended-report = λ i. record { word = v .word i; fixed = marked n (v .marks i) 1; turns = v .turns i; guesses = marked n (v .marks i) 3; live = v .live i }
-
-pub half-done : (n : ℕ) (c : RowLists) (lost : List ℕ) (other others budget limit : ℕ) (marks forms correction : List ℕ) (mid : Qubitwise) (new : HalfLists)
-    (e : Ended) (r : HalfReport) → HalfRun n c lost other others budget limit (record { marks = marks; forms = forms }) mid e
-    → r ≡ reportBy n e (mid .marks) → Finished n (e .word) (record { marks = mid .marks; forms = mid .forms; correction = correction }) new
+pub half-done : (n : ℕ) (c : RowLists) (lost : List ℕ) (other others budget limit : ℕ) (marks marks₁ forms correction work work′ : List ℕ) (mid : Qubitwise) (new : HalfLists)
+    (a : RunAnswer) (r : HalfReport) → Started n (c .flat) (c .ends) lost other others marks marks₁
+    → Runs n c budget limit work work′ (record { marks = marks₁; forms = forms }) mid a → runs.fitting n c budget work (record { marks = marks₁; forms = forms }) ≡ true
+    → a ≡ Over r → Finished n (r .word) (record { marks = mid .marks; forms = mid .forms; correction = correction }) new
     → HalfDone n c lost other others budget limit (record { marks = marks; forms = forms; correction = correction }) new r
-half-done n c lost other others budget limit marks forms correction mid new e r v told f =
+unfolding shown
+half-done n c lost other others budget limit marks marks₁ forms correction work work′ mid new a r begun v fits told f =
     record {
       lengths = record {
-        marks = f .marks .long ∙ v .kept .marks-long;
+        marks = f .marks .long ∙ v .kept .marks-long ∙ begun .long;
         forms = f .forms .long ∙ v .kept .forms-long;
         correction = f .correction .long;
       };
       shows = λ own good.
-          let end = decoded (halfIn n c lost other others) budget limit in
-          let w = v .ends own good in (
-            told ∙ ended-report n (record { marks = marks; forms = forms }) mid correction new e end w f,
-            ended-shows n (record { marks = marks; forms = forms }) mid correction new e end w f marks forms refl,
-          );
+          let h = halfIn n c lost other others in
+          let o = v .over fits in
+          let same : o .0 ≡ r = cc in
+          let w = subst (λ (x : HalfReport). Ran n mid x (decoded h budget limit)) same
+              (subst (Ran n mid (o .0)) (sym (decoded-is n c lost other others budget limit marks marks₁ begun good)) (o .2 own)) in
+          (w .report, ended-shows n (record { marks = marks; forms = forms }) mid correction new r (decoded h budget limit) kept w f marks forms refl);
     }
+  where
+    kept : Kept n (record { marks = marks; forms = forms }) mid
+    kept = record {
+      marks-long = v .kept .marks-long ∙ begun .long;
+      forms-long = v .kept .forms-long;
+      marks-rest = λ q i. v .kept .marks-rest q i ∙ begun .rest q i;
+      forms-rest = v .kept .forms-rest;
+    }
+
+-- Sizes and lists that fit the decode fit its turns.
+pub turns-fit : (n lit first count budget work marks forms : ℕ) → n ≤ 1024 → count ≤ 512 → first ≤ 512 → budget ≤ 63 → 8192 ≤ work → first + count ≤ lit
+    → n ≤ marks → n ≤ forms → runs.fits? n lit first count budget work marks forms ≡ true
+unfolding runs.fits?
+turns-fit n lit first count budget work marks forms a b d e f g h i =
+    and-in (and-in (and-in (and-in (and-in (and-in (and-in (le-leb _ _ a) (le-leb _ _ b)) (le-leb _ _ d)) (le-leb _ _ e)) (le-leb _ _ f)) (le-leb _ _ g)) (le-leb _ _ h)) (le-leb _ _ i)
+
+pub turns-made : {C : Type 0} (n : ℕ) (c : RowLists) (budget limit : ℕ) (work work′ : List ℕ) (old new : Qubitwise) (a : RunAnswer) → Runs n c budget limit work work′ old new a
+    → runs.fitting n c budget work old ≡ true → a ≡ turns-answer.Refused → C
+turns-made n c budget limit work work′ old new a v fits e = let o = v .over fits in let f = o .1 in let z : _≡_ {A = ℕ} 0 1 = cc in absurd (omega arith)
 
 ----------------------------------------------------------------------
 -- Sizes and lengths that fit

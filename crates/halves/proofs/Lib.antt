@@ -1,13 +1,4 @@
-pub mod FormBits
-pub mod FormWords
-pub mod FormRows
-pub mod Scanning
 pub mod ListFills
-pub mod Degrees
-pub mod Choices
-pub mod Turning
-pub mod Moves
-pub mod Running
 pub mod Starting
 pub mod HalfRuns
 pub mod Finishing

@@ -1,8 +1,7 @@
--- The start of a half in the lists is the machine's start. Assumes nothing.
+-- The marks of the start in the lists are the machine's. Assumes nothing.
 use mathlib.Core.Path.{_≡_, refl, sym, ap, _∙_, fun-ext, subst}
 use mathlib.Core.Bool.{Bool, true, false, cond}
 use mathlib.Core.Logic.{⊎-elim}
-use mathlib.Core.Option.{Option, none, some}
 use mathlib.Core.List.{List, [], _∷_, _++_}
 use Prim.Native.Nat.{ℕ, zero, suc, _+_, _*_, _≤_, _<_}
 use native.Mathlib.Nat.{add-zero}
@@ -14,19 +13,15 @@ use Rattle.binary.specs.Meaning.{Row, All, fixed?}
 use Rattle.binary.specs.Packed.{wordsFor, room, Packed, Put, Marked, enough, listed}
 use Rattle.binary.proofs.Bits.{never}
 use Rattle.binary.proofs.Elimination.{fixed-lost}
-use Rattle.binary.proofs.WordBits.{order, bit-zero}
+use Rattle.binary.proofs.WordBits.{order}
 use Rattle.binary.proofs.Words.{few-words}
 use Rattle.binary.proofs.Put.{packed-more}
 use Rattle.code.specs.Lists.{rowAt, rowsFrom}
 use Rattle.code.specs.Tests.{Ascending}
 use Rattle.code.proofs.Order.{rows-below}
-use Rattle.halves.specs.declared.Taken.{Taken}
-use Rattle.machine.specs.Machine.{Form, Forms, isOpen, closed?, takeUpAll, blank, stage, startMark}
-use Rattle.machine.specs.Lists.{view, formsOf}
-use Rattle.halves.specs.Lists.{withLive, Topped, TakenAs, TookUp}
-use Rattle.halves.specs.Sides.{closedAt?}
-use Rattle.halves.specs.Scans.{Filled, openMark}
-use Rattle.halves.specs.Turns.{RowLists, rowChecks, StageAs}
+use Rattle.machine.specs.Machine.{startMark}
+use Rattle.machine.specs.Lists.{view}
+use Rattle.halves.specs.Fills.{Filled, openMark}
 use Rattle.halves.specs.Starts.{PackedFrom, Started}
 
 ----------------------------------------------------------------------
@@ -76,24 +71,21 @@ pack-end n flat ends other others i work work′ long e p =
 ----------------------------------------------------------------------
 -- The start
 
--- Forms that are all 0 are those of the blank state.
-blank-forms : (n : ℕ) (forms forms′ : List ℕ) → Filled (λ q. 0) n forms forms′ → formsOf n forms′ ≡ (λ q k. false)
-blank-forms n forms forms′ f =
-    fun-ext λ q. fun-ext λ k. ⊎-elim (λ (l : q < n). rw (lt-ltb q n l, f .first q l) (bit-zero k)) (λ (l : n ≤ q). rw (le-ltb q n l) (bit-zero k)) (order q n)
-
-pub blank-topped : (n : ℕ) (forms forms′ : List ℕ) → Filled (λ q. 0) n forms forms′ → Topped n 0 forms′
-blank-topped n forms forms′ f q k l = ap (λ (g : ℕ → Form). g q k) (blank-forms n forms forms′ f)
-
 unlisted : (n : ℕ) (lost : List ℕ) (q : ℕ) → n ≤ q → listed n lost q ≡ false
 unfolding listed
 unlisted n lost q l = rw (le-ltb q n l)
 
-module _ (n : ℕ) (c : RowLists) (lost : List ℕ) (other others : ℕ) (marks marks₁ marks₂ forms forms₁ forms₂ work work₁ work₂ : List ℕ) (r : Bool) (t : Taken)
-    (opened : Filled (openMark n lost) n marks marks₁) (packed : PackedFrom n (c .flat) (c .ends) other others work work₁)
-    (fixes : Marked n others lost work₁ marks₁ work₂ marks₂ r) (blanked : Filled (λ q. 0) n forms forms₁)
-    (took : TookUp n (takeUpAll (closedAt? true 0 (isOpen (view n marks₂))) (rowChecks c) (withLive n forms₁ 0)) t forms₁ forms₂) where
+start-mark : (lost? fixed : Bool) → (lost? ≡ false → fixed ≡ false) → _≡_ {A = ℕ} (cond fixed 1 (cond lost? 4 0)) (cond lost? (cond fixed 1 4) 0)
+start-mark true true h = refl
+start-mark true false h = refl
+start-mark false true h = never refl (h refl)
+start-mark false false h = refl
+
+module _ (n : ℕ) (flat ends lost : List ℕ) (other others : ℕ) (marks marks₁ marks₂ work work₁ work₂ : List ℕ) (r : Bool)
+    (opened : Filled (openMark n lost) n marks marks₁) (packed : PackedFrom n flat ends other others work work₁)
+    (fixes : Marked n others lost work₁ marks₁ work₂ marks₂ r) where
   abbrev rs : List Row
-  rs = rowsFrom (c .flat) (c .ends) other others
+  rs = rowsFrom flat ends other others
 
   long-enough : n ≤ 1024 → others ≤ 512 → 8192 ≤ length work → n ≤ length lost → n ≤ length marks → r ≡ true
   unfolding enough
@@ -105,29 +97,13 @@ module _ (n : ℕ) (c : RowLists) (lost : List ℕ) (other others : ℕ) (marks 
       fixes .answer
       ∙ rw (le-leb n 1024 a, le-leb others 512 b, le-leb (others * wordsFor n) (length work₁) (omega arith), le-leb n (length lost) e, le-leb n (length marks₁) (omega arith))
 
-  stage-comes : (x : Option Forms) → TakenAs n forms₂ x t → StageAs n (record { marks = marks₂; forms = forms₂ }) 0 t (stage (view n marks₂) 0 x)
-  stage-comes none e = (e, refl, refl, refl)
-  stage-comes (some fs) e =
-      (e .0, λ i. record { mark = view n marks₂; forms = record { form = e .1 i; live = fs .live }; turns = 0 }, e .2)
-
-  same-taken : takeUpAll (closedAt? true 0 (isOpen (view n marks₂))) (rowChecks c) (withLive n forms₁ 0)
-      ≡ takeUpAll (closed? (isOpen (view n marks₂))) (rowChecks c) blank
-  unfolding closedAt?
-  same-taken = ap (λ (f : ℕ → Form). takeUpAll (closed? (isOpen (view n marks₂))) (rowChecks c) (record { form = f; live = 0 })) (blank-forms n forms forms₁ blanked)
-
-  start-mark : (lost? fixed : Bool) → (lost? ≡ false → fixed ≡ false) → _≡_ {A = ℕ} (cond fixed 1 (cond lost? 4 0)) (cond lost? (cond fixed 1 4) 0)
-  start-mark true true h = refl
-  start-mark true false h = refl
-  start-mark false true h = never refl (h refl)
-  start-mark false false h = refl
-
   fixed-marks : r ≡ true → All (Ascending n) rs → view n marks₂ ≡ startMark (listed n lost) (fixed? n rs (listed n lost))
   fixed-marks ready good = fun-ext λ q. ⊎-elim (inside q) (outside q) (order q n)
     where
       inside : (q : ℕ) → q < n → view n marks₂ q ≡ startMark (listed n lost) (fixed? n rs (listed n lost)) q
       inside q l =
           rw (lt-ltb q n l)
-          (fixes .marked ready rs (rows-count (c .flat) (c .ends) other others) (packed .packed) (rows-below n rs good) q l
+          (fixes .marked ready rs (rows-count flat ends other others) (packed .packed) (rows-below n rs good) q l
           ∙ ap (cond (fixed? n rs (listed n lost) q) 1) (opened .first q l)
           ∙ start-mark (listed n lost q) (fixed? n rs (listed n lost) q) (fixed-lost n rs (listed n lost) (rows-below n rs good) q))
 
@@ -135,17 +111,12 @@ module _ (n : ℕ) (c : RowLists) (lost : List ℕ) (other others : ℕ) (marks 
       outside q l = rw (le-ltb q n l) (sym (ap (λ (b : Bool). cond b (cond (fixed? n rs (listed n lost) q) 1 4) 0) (unlisted n lost q l)))
 
   pub started : n ≤ 1024 → others ≤ 512 → 8192 ≤ length work → n ≤ length lost → n ≤ length marks
-      → (length work₂ ≡ length work) × Started n c lost other others (record { marks = marks; forms = forms }) (record { marks = marks₂; forms = forms₂ }) t
+      → (length work₂ ≡ length work) × Started n flat ends lost other others marks marks₂
   started a b d e f = (
     fixes .work-size ∙ packed .long,
     record {
-      kept = record {
-        marks-long = fixes .size ∙ opened .long;
-        forms-long = took .long ∙ blanked .long;
-        marks-rest = λ q l. fixes .rest q l ∙ opened .rest q l;
-        forms-rest = λ q l. took .rest q l ∙ blanked .rest q l;
-      };
-      comes = stage-comes (takeUpAll (closed? (isOpen (view n marks₂))) (rowChecks c) blank) (subst (λ (x : Option Forms). TakenAs n forms₂ x t) same-taken (took .taken));
+      long = fixes .size ∙ opened .long;
+      rest = λ q l. fixes .rest q l ∙ opened .rest q l;
       marked = fixed-marks (long-enough a b d e f);
     },
   )

@@ -1,6 +1,4 @@
 pub mod Lists
+pub mod Fills
 pub mod Decode
-pub mod Sides
-pub mod Scans
-pub mod Turns
 pub mod Starts

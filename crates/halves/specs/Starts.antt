@@ -1,15 +1,14 @@
--- What the start of a half does to the lists.
+-- What the decode of a half does to the lists, beside its turns.
 --   PackedFrom  the work list holds the other kind's rows, packed
---   Started     the stage that the closed rows lead to, over the marks; and these are the start's
---   HalfRun     the start and the turns: how the half ends
---   reportBy    the report of a half, counted from its marks
+--   Started     the marks are the start's
+--   halfIn      the half whose rows and readings, lost qubits and other kind's rows the lists hold
 --   Finished    what the half leaves in its lists, by its word
 --   fits?       whether sizes and lengths are such that the half is decoded
 --   HalfDone    the whole decode of a half
 use mathlib.Core.Path.{_≡_}
 use mathlib.Core.Bool.{Bool, _&&_, cond}
 use mathlib.Core.List.{List}
-use Prim.Native.Nat.{ℕ, _+_, _%_}
+use Prim.Native.Nat.{ℕ, _+_, _%_, _≤_}
 use lib.Dec.{leb}
 use lib.ListN.{length, getD}
 use Rattle.binary.specs.Meaning.{All, fixed?}
@@ -18,50 +17,31 @@ use Rattle.code.specs.Lists.{rowsFrom}
 use Rattle.code.specs.Tests.{Ascending}
 use Rattle.machine.specs.declared.Word.{Word}
 use Rattle.machine.specs.declared.HalfReport.{HalfReport}
-use Rattle.halves.specs.declared.Taken.{Taken}
-use Rattle.halves.specs.declared.Ended.{Ended}
-use Rattle.machine.specs.Machine.{isOpen, closed?, takeUpAll, blank, stage, startMark, Half, decoded}
+use Rattle.machine.specs.Machine.{startMark, Half}
 use Rattle.machine.specs.Words.{finished?}
-use Rattle.machine.specs.Report.{marked, none?, outcome}
-use Rattle.machine.specs.Lists.{view, HalfLists, Shows, SameLengths}
+use Rattle.machine.specs.Report.{none?, outcome}
+use Rattle.machine.specs.Lists.{view, HalfLists, SameLengths, Shows}
+use Rattle.turns.specs.Turns.{RowLists}
 use Rattle.halves.specs.Lists.{halfOf}
-use Rattle.halves.specs.Scans.{Filled}
-use Rattle.halves.specs.Turns.{RowLists, rowChecks, Qubitwise, Kept, StageAs, EndedAs}
+use Rattle.halves.specs.Fills.{Filled}
 
 pub record PackedFrom (n : ℕ) (flat ends : List ℕ) (other others : ℕ) (work work′ : List ℕ) : Type 0 where
   pub long : length work′ ≡ length work
   pub packed : Packed n (wordsFor n) (rowsFrom flat ends other others) work′
 
--- Whatever the rows are, the stage is that of the marks left; of rows that are strictly ascending and below n, the fixed qubits are marked.
-pub record Started (n : ℕ) (c : RowLists) (lost : List ℕ) (other others : ℕ) (old new : Qubitwise) (t : Taken) : Type 0 where
-  pub kept : Kept n old new
-  pub comes : StageAs n new 0 t
-      (stage (view n (new .marks)) 0 (takeUpAll (closed? (isOpen (view n (new .marks)))) (rowChecks c) blank))
-  pub marked : All (Ascending n) (rowsFrom (c .flat) (c .ends) other others)
-      → view n (new .marks) ≡ startMark (listed n lost) (fixed? n (rowsFrom (c .flat) (c .ends) other others) (listed n lost))
+-- Of rows that are strictly ascending and below n, the fixed qubits are marked.
+pub record Started (n : ℕ) (flat ends lost : List ℕ) (other others : ℕ) (marks marks′ : List ℕ) : Type 0 where
+  pub long : length marks′ ≡ length marks
+  pub rest : (q : ℕ) → n ≤ q → getD marks′ q 0 ≡ getD marks q 0
+  pub marked : All (Ascending n) (rowsFrom flat ends other others)
+      → view n marks′ ≡ startMark (listed n lost) (fixed? n (rowsFrom flat ends other others) (listed n lost))
 
 -- The half whose rows and readings, lost qubits and other kind's rows the lists hold.
 abbrev pub halfIn : ℕ → RowLists → List ℕ → ℕ → ℕ → Half
 halfIn n c lost other others = halfOf n (c .flat) (c .ends) lost (c .lit) (c .first) (c .count) other others
 
--- Of rows that are strictly ascending and below n the half ends as the machine's.
-pub record HalfRun (n : ℕ) (c : RowLists) (lost : List ℕ) (other others budget limit : ℕ) (old new : Qubitwise) (r : Ended) : Type 0 where
-  pub kept : Kept n old new
-  pub ends : All (Ascending n) (rowsFrom (c .flat) (c .ends) (c .first) (c .count)) → All (Ascending n) (rowsFrom (c .flat) (c .ends) other others)
-      → EndedAs n old new r (decoded (halfIn n c lost other others) budget limit)
-
 ----------------------------------------------------------------------
 -- What a half leaves
-
--- The counts of the marks.
-abbrev pub reportBy : ℕ → Ended → List ℕ → HalfReport
-reportBy n e marks = record {
-  word = e .word;
-  fixed = marked n (view n marks) 1;
-  turns = e .turns;
-  guesses = marked n (view n marks) 3;
-  live = e .live;
-}
 
 -- By the word: marks and forms stay, or are 0 after none; the correction is the constants of a finished half's forms, and else 0.
 pub record Finished (n : ℕ) (word : Word) (old new : HalfLists) : Type 0 where

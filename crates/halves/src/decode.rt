@@ -3,18 +3,12 @@ ghost use mathlib.Core.Path.{_≡_};
 ghost use Prim.Native.Nat.{_+_, _≤_};
 ghost use lib.ListN.{length};
 ghost use Rattle.machine.specs.Report.{none?};
-ghost use Rattle.halves.specs.Starts.{PackedFrom, Started, HalfRun, reportBy, Finished, fits?, HalfDone};
-use crate::Ended;
-use crate::Taken;
+ghost use Rattle.halves.specs.Starts.{PackedFrom, Started, Finished, fits?, HalfDone};
 use crate::fills;
-use crate::forms;
-use crate::guesses;
-use crate::rows;
-use crate::turns;
-use code::Qubit;
 use code::Row;
 use machine::HalfReport;
 use machine::Word;
+use turns::RunAnswer;
 
 // A number as an index.
 fn index(x: u16) -> usize
@@ -37,122 +31,23 @@ fn pack_rows(n: u16, flat: &[u16], ends: &[u16], other: u16, others: u16, work: 
     }
 }
 
-// Start: fixed qubits are settled with form 0, then the closed rows are taken up.
+// The marks of the start: fixed qubits are settled, all other lost ones open.
 fn start(
     n: u16,
     flat: &[u16],
     ends: &[u16],
     lost: &[u8],
-    lit: &[u8],
-    first: u16,
-    count: u16,
     other: u16,
     others: u16,
     work: &mut [u64],
     marks: &mut [u8],
-    forms: &mut [u64],
-) -> Taken
-    requires { ⌜ (n ≤ 1024) × (count ≤ 512) × (others ≤ 512) × (first ≤ 512) × (other ≤ 512) × (8192 ≤ length (now work)) ⌝ }
-    requires { ⌜ (n ≤ length (now lost)) × (first + count ≤ length (now lit)) × (n ≤ length (now marks)) × (n ≤ length (now forms)) ⌝ }
-    ensures { λ t. ⌜ (length (now (work .exit)) ≡ length (now (work .entry))) × Started n (record { flat = now (flat .entry); ends = now (ends .entry); lit = now (lit .entry); first = first; count = count }) (now (lost .entry)) other others (record { marks = now (marks .entry); forms = now (forms .entry) }) (record { marks = now (marks .exit); forms = now (forms .exit) }) t ⌝ }
+)
+    requires { ⌜ (n ≤ 1024) × (others ≤ 512) × (other ≤ 512) × (8192 ≤ length (now work)) × (n ≤ length (now lost)) × (n ≤ length (now marks)) ⌝ }
+    ensures { λ _. ⌜ (length (now (work .exit)) ≡ length (now (work .entry))) × Started n (now (flat .entry)) (now (ends .entry)) (now (lost .entry)) other others (now (marks .entry)) (now (marks .exit)) ⌝ }
 {
-    let size = n as usize;
-    rows::start_marks(size, lost, marks);
+    fills::start_marks(n as usize, lost, marks);
     pack_rows(n, flat, ends, other, others, work);
     binary::mark_fixed(n, others as usize, lost, work, marks);
-    fills::clear_words(size, forms);
-    forms::take_up_rows(
-        size,
-        flat,
-        ends,
-        lit,
-        first,
-        count,
-        marks,
-        true,
-        Qubit(0),
-        0,
-        forms,
-    )
-}
-
-// The start of a half and its turns.
-fn run_half(
-    n: u16,
-    flat: &[u16],
-    ends: &[u16],
-    lost: &[u8],
-    lit: &[u8],
-    first: u16,
-    count: u16,
-    other: u16,
-    others: u16,
-    budget: u8,
-    limit: u16,
-    work: &mut [u64],
-    marks: &mut [u8],
-    forms: &mut [u64],
-) -> Ended
-    requires { ⌜ (n ≤ 1024) × (count ≤ 512) × (others ≤ 512) × (first ≤ 512) × (other ≤ 512) × (8192 ≤ length (now work)) × (budget ≤ 63) ⌝ }
-    requires { ⌜ (n ≤ length (now lost)) × (first + count ≤ length (now lit)) × (n ≤ length (now marks)) × (n ≤ length (now forms)) ⌝ }
-    ensures { λ r. ⌜ (length (now (work .exit)) ≡ length (now (work .entry))) × HalfRun n (record { flat = now (flat .entry); ends = now (ends .entry); lit = now (lit .entry); first = first; count = count }) (now (lost .entry)) other others budget limit (record { marks = now (marks .entry); forms = now (forms .entry) }) (record { marks = now (marks .exit); forms = now (forms .exit) }) r ⌝ }
-{
-    let size = n as usize;
-    let taken = start(
-        n,
-        flat,
-        ends,
-        lost,
-        lit,
-        first,
-        count,
-        other,
-        others,
-        work,
-        marks,
-        forms,
-    );
-    let Taken::Live(live) = taken else {
-        return Ended {
-            word: Word::None,
-            turns: 0,
-            live: 0,
-        };
-    };
-    guesses::count_rows(size, flat, ends, first, count, work);
-    let unsettled = rows::count_marks(size, marks, 4);
-    turns::run(
-        size,
-        flat,
-        ends,
-        lit,
-        first,
-        count,
-        budget as u16,
-        limit,
-        live,
-        unsettled,
-        work,
-        marks,
-        forms,
-    )
-}
-
-// The report of a half that ended so, with its marks.
-fn report(n: usize, ended: Ended, marks: &[u8]) -> HalfReport
-    requires { ⌜ (n ≤ length (now marks)) × (n ≤ 1024) ⌝ }
-    ensures { λ r. ⌜ r ≡ reportBy n ended (now (marks .entry)) ⌝ }
-{
-    let fixed = rows::count_marks(n, marks, 1);
-    let guesses = rows::count_marks(n, marks, 3);
-    let word = ended.word;
-    HalfReport {
-        word: word,
-        fixed: fixed,
-        turns: ended.turns,
-        guesses: guesses,
-        live: ended.live,
-    }
 }
 
 // Whether the half ended in none.
@@ -177,10 +72,10 @@ fn finish(n: usize, word: Word, marks: &mut [u8], forms: &mut [u64], correction:
         fills::write_flips(n, forms, correction);
         return;
     }
-    fills::clear_bytes(n, correction);
+    lists::clear_bytes(correction, 0, n);
     if is_none(word) {
-        fills::clear_bytes(n, marks);
-        fills::clear_words(n, forms);
+        lists::clear_bytes(marks, 0, n);
+        lists::clear_words(forms, 0, n);
     }
 }
 
@@ -213,6 +108,17 @@ pub fn fits(
     shot & (size <= marks.len()) & (size <= forms.len()) & (size <= correction.len())
 }
 
+// For turns that are not made, of which there are none here.
+fn nothing() -> HalfReport {
+    HalfReport {
+        word: Word::None,
+        fixed: 0,
+        turns: 0,
+        guesses: 0,
+        live: 0,
+    }
+}
+
 // The decode of a half whose sizes and lists fit.
 pub fn decode(
     n: u16,
@@ -235,25 +141,24 @@ pub fn decode(
     requires { ⌜ (n ≤ length (now lost)) × (first + count ≤ length (now lit)) × (n ≤ length (now marks)) × (n ≤ length (now forms)) × (n ≤ length (now correction)) ⌝ }
     ensures { λ r. ⌜ (length (now (work .exit)) ≡ length (now (work .entry))) × HalfDone n (record { flat = now (flat .entry); ends = now (ends .entry); lit = now (lit .entry); first = first; count = count }) (now (lost .entry)) other others budget limit (record { marks = now (marks .entry); forms = now (forms .entry); correction = now (correction .entry) }) (record { marks = now (marks .exit); forms = now (forms .exit); correction = now (correction .exit) }) r ⌝ }
 {
-    let size = n as usize;
-    let ended = run_half(
+    start(n, flat, ends, lost, other, others, work, marks);
+    let ran = turns::run_turns(
         n,
         flat,
         ends,
-        lost,
         lit,
-        first,
+        Row(first),
         count,
-        other,
-        others,
         budget,
         limit,
         work,
         marks,
         forms,
     );
-    let told = report(size, ended, marks);
-    let word = ended.word;
-    finish(size, word, marks, forms, correction);
+    let RunAnswer::Over(told) = ran else {
+        return nothing();
+    };
+    let word = told.word;
+    finish(n as usize, word, marks, forms, correction);
     told
 }

@@ -2,28 +2,17 @@
 ghost use mathlib.Core.Path.{_≡_};
 ghost use Prim.Native.Nat.{_%_, _≤_};
 ghost use lib.ListN.{getD};
-ghost use Rattle.halves.specs.Scans.{Filled};
+ghost use Rattle.halves.specs.Fills.{Filled, openMark};
 
-// The first n words to 0.
-pub fn clear_words(n: usize, list: &mut [u64])
-    requires { do ⌜ n ≤ (← ⟦list.len()⟧) ⌝ }
-    ensures { λ _. ⌜ Filled (λ _. 0) n (now (list .entry)) (now (list .exit)) ⌝ }
+// Each lost qubit is marked open, each other one not lost.
+pub fn start_marks(n: usize, lost: &[u8], marks: &mut [u8])
+    requires { do ⌜ n ≤ (← ⟦lost.len()⟧) ⌝ }
+    requires { do ⌜ n ≤ (← ⟦marks.len()⟧) ⌝ }
+    ensures { λ _. ⌜ Filled (openMark n (now (lost .entry))) n (now (marks .entry)) (now (marks .exit)) ⌝ }
 {
     let mut q: usize = 0;
     while q < n {
-        list[q] = 0;
-        q += 1;
-    }
-}
-
-// The first n bytes to 0.
-pub fn clear_bytes(n: usize, list: &mut [u8])
-    requires { do ⌜ n ≤ (← ⟦list.len()⟧) ⌝ }
-    ensures { λ _. ⌜ Filled (λ _. 0) n (now (list .entry)) (now (list .exit)) ⌝ }
-{
-    let mut q: usize = 0;
-    while q < n {
-        list[q] = 0;
+        marks[q] = if lost[q] == 1 { 4 } else { 0 };
         q += 1;
     }
 }

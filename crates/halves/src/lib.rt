@@ -3,58 +3,14 @@ ghost use Rattle.halves.specs.Decode.{Decodes};
 
 mod decode;
 mod fills;
-mod forms;
-mod guesses;
-mod rows;
-mod turns;
 
-use code::Qubit;
 use code::Row;
 use machine::HalfReport;
-use machine::Word;
 
 // The answer to the decode of a half.
 pub enum HalfAnswer {
     Refused,
     Decoded(HalfReport),
-}
-
-// What a scan of a row's open qubits finds.
-enum Open {
-    Closed,
-    One(Qubit),
-    More,
-}
-
-// The lowest dangling row and its open qubit.
-enum Dangling {
-    NoRow,
-    At(Row, Qubit),
-}
-
-// The qubit that the guess rule names.
-enum Choice {
-    NoQubit,
-    Named(Qubit),
-}
-
-// What taking up rows comes to: the half ends in none, or so many guesses are live.
-enum Taken {
-    Failed,
-    Live(u16),
-}
-
-// A turn, or that the budget is spent.
-enum Move {
-    Spent,
-    Made(Taken),
-}
-
-// How a half ended: the word, the turns made and the live guesses.
-struct Ended {
-    word: Word,
-    turns: u16,
-    live: u16,
 }
 
 // The decode of one half: its own rows are `count` from row `first` on, the other kind's `others` from row `other` on.

@@ -1,5 +1,4 @@
 -- What the records of a shot do to its list.
---   Cleared    elements become 0, the others stay
 --   Begun      a list that an earlier shot left is cleared, as far as the code has qubits and rows
 --   markReply  the reply to a number of a set, by the tests in the table's order
 --   Marked     what taking up a number of a set does
@@ -23,12 +22,6 @@ use Rattle.records.specs.Steps.{Does}
 
 ----------------------------------------------------------------------
 -- The list
-
--- Elements from one up to another.
-pub record Cleared (from to : ℕ) (old new : List ℕ) : Type 0 where
-  pub long : length new ≡ length old
-  pub inside : (k : ℕ) → from ≤ k → k < to → getD new k 0 ≡ 0
-  pub outside : (k : ℕ) → (k < from) ⊎ (to ≤ k) → getD new k 0 ≡ getD old k 0
 
 pub record Begun (st : State) (old new : List ℕ) : Type 0 where
   pub long : length new ≡ length old

@@ -1,12 +1,13 @@
 // The records of a shot: a lost qubit, a lit row.
 ghost use mathlib.Core.Path.{_≡_};
 ghost use mathlib.Core.Bool.{cond};
-ghost use Prim.Native.Nat.{ℕ, _+_, _≤_, _<_};
+ghost use Prim.Native.Nat.{_+_, _≤_};
 ghost use lib.ListN.{set};
 ghost use Rattle.records.specs.Records.{pauli, lost, lit};
-ghost use Rattle.readout.specs.Readout.{Cleared, Begun, marked?, Marked, Adds};
+ghost use Rattle.readout.specs.Readout.{Begun, marked?, Marked, Adds};
 use code::Qubit;
 use code::Row;
+use lists::clear_bytes;
 use records::Answer;
 use records::Refusal;
 use records::Reply;
@@ -16,29 +17,6 @@ use records::codeless;
 use records::opened;
 use records::refused;
 
-// The smaller of two numbers.
-fn least(a: usize, b: usize) -> usize
-    ensures { λ r. ⌜ (r ≤ a) × (r ≤ b) × ((k : ℕ) → r ≤ k → k < a → b ≤ k) ⌝ }
-{
-    if a < b {
-        return a;
-    }
-    b
-}
-
-// Elements from `from` up to `to` become 0; past the list there are none.
-fn clear(list: &mut [u8], from: usize, to: usize)
-    requires { ⌜ from ≤ to ⌝ }
-    ensures { λ _. ⌜ Cleared from to (now (list .entry)) (now (list .exit)) ⌝ }
-{
-    let end = least(to, list.len());
-    let mut i = from;
-    while i < end {
-        list[i] = 0;
-        i += 1;
-    }
-}
-
 // A list that an earlier shot left is cleared, so that it holds this one.
 pub fn begin(st: State, shot: &mut [u8])
     ensures { λ _. ⌜ Begun st (now (shot .entry)) (now (shot .exit)) ⌝ }
@@ -47,8 +25,8 @@ pub fn begin(st: State, shot: &mut [u8])
     if stale {
         let sizes = st.sizes;
         let rows = sizes.x as usize + sizes.z as usize;
-        clear(shot, 0, sizes.n as usize);
-        clear(shot, 1024, 1024 + rows);
+        clear_bytes(shot, 0, sizes.n as usize);
+        clear_bytes(shot, 1024, 1024 + rows);
     }
 }
 

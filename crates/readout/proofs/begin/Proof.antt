@@ -13,23 +13,23 @@ cast-rows-2 c = search needs
 add-rows : tie.Need-add-rows
 add-rows c = search needs
 
-cast-clear : tie.Need-cast-clear
-cast-clear c = search needs
+cast-clear-bytes : tie.Need-cast-clear-bytes
+cast-clear-bytes c = search needs
 
-clear-requires : tie.Need-clear-requires
-clear-requires c κs = search needs
+clear-bytes-requires : tie.Need-clear-bytes-requires
+clear-bytes-requires c κs = search needs
 
-add-clear : tie.Need-add-clear
-add-clear c = search needs
+add-clear-bytes : tie.Need-add-clear-bytes
+add-clear-bytes c = search needs
 
-clear-requires-2 : tie.Need-clear-requires-2
-clear-requires-2 c κs = search needs
+clear-bytes-requires-2 : tie.Need-clear-bytes-requires-2
+clear-bytes-requires-2 c κs = search needs
 
 same-length : tie.Need-same-length
 same-length c = search needs
 
 returns : tie.Need-returns
-returns c = begun-stale _ _ _ _ (search needs) (c .before .before .before .before .before .before .clear .ensures) (c .before .before .clear2 .ensures)
+returns c = begun-stale _ _ _ _ (search needs) (c .before .before .before .before .before .before .clear-bytes .ensures) (c .before .before .clear-bytes2 .ensures)
 
 returns-2 : tie.Need-returns-2
 returns-2 c = begun-still _ _ (search needs)
@@ -41,10 +41,10 @@ begin-spec =
     cast-rows
     cast-rows-2
     add-rows
-    cast-clear
-    clear-requires
-    add-clear
-    clear-requires-2
+    cast-clear-bytes
+    clear-bytes-requires
+    add-clear-bytes
+    clear-bytes-requires-2
     same-length
     returns
     returns-2)

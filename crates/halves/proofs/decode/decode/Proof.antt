@@ -1,21 +1,25 @@
 -- `halves::decode::decode` meets its contract. Assumes nothing.
+use mathlib.Core.Path.{_∙_}
 use native.Mathlib.Omega.{arith}
-use Rattle.halves.proofs.HalfDecodes.{half-done}
+use Rattle.halves.proofs.HalfDecodes.{turns-fit, turns-made, half-done}
 use borrow.Author.Needs.{needs}
 use Rattle.halves.proofs.decode.decode.Statement.{statement}
 use Rattle.halves.proofs.decode.decode.Tie as tie
 
-run-half-requires : tie.Need-run-half-requires
-run-half-requires c κs = search needs
+start-requires : tie.Need-start-requires
+start-requires c κs = search needs
 
-report-requires : tie.Need-report-requires
-report-requires c κs = search needs
+run-turns-requires : tie.Need-run-turns-requires
+run-turns-requires c κs = search needs
 
-finish-requires : tie.Need-finish-requires
-finish-requires c κs =
-    let p = c .before .before .before .before .before .before .before .before .before .before .before .before .before .before .before .before .before .before .before .before .before .before .before .pre in
-    let k = c .before .before .before .before .before .before .before .before .before .before .before .run-half .ensures .1 .kept in
-    (omega (arith, p, k .marks-long), omega (arith, p, k .forms-long), omega (arith, p))
+enum-known-ran : tie.Need-enum-known-ran
+enum-known-ran c = search needs
+
+enum-told : tie.Need-enum-told
+enum-told c = search needs
+
+nothing-requires : tie.Need-nothing-requires
+nothing-requires c κs = search needs
 
 same-length : tie.Need-same-length
 same-length c = search needs
@@ -26,23 +30,54 @@ same-length-2 c = search needs
 same-length-3 : tie.Need-same-length-3
 same-length-3 c = search needs
 
+returns : tie.Need-returns
+returns c =
+    let p = c .before .before .before .before .before .before .before .before .before .before .before .before .before .before .before .before .before .before .before .before .before .before .before .before .before .before .before .before .pre in
+    let s = c .before .before .before .before .before .before .before .before .before .before .before .before .before .before .before .before .before .start .ensures in
+    turns-made _ _ _ _ _ _ _ _ _ (c .before .before .before .before .before .before .before .before .before .run-turns .ensures) (turns-fit _ _ _ _ _ _ _ _ (omega (arith, p)) (omega (arith, p)) (omega (arith, p)) (omega (arith, p)) (omega (arith, p, s .0)) (omega (arith, p)) (omega (arith, p, s .1 .long)) (omega (arith, p))) (c .before .enum-told .given .1)
+
+finish-requires : tie.Need-finish-requires
+finish-requires c κs =
+    let p = c .before .before .before .before .before .before .before .before .before .before .before .before .before .before .before .before .before .before .before .before .before .before .before .before .before .before .before .before .before .before .before .pre in
+    let s = c .before .before .before .before .before .before .before .before .before .before .before .before .before .before .before .before .before .before .before .before .start .ensures in
+    let k = c .before .before .before .before .before .before .before .before .before .before .before .before .run-turns .ensures .kept in
+    (omega (arith, p, s .1 .long, k .marks-long), omega (arith, p, k .forms-long), omega (arith, p))
+
 same-length-4 : tie.Need-same-length-4
 same-length-4 c = search needs
 
-returns : tie.Need-returns
-returns c =
-    let v = c .before .before .before .before .before .before .before .before .before .before .before .before .before .before .before .before .before .before .run-half .ensures in
-    (v .0, half-done _ _ _ _ _ _ _ _ _ _ _ _ _ _ (v .1) (c .before .before .before .before .before .before .before .before .before .before .report .ensures) (c .before .before .before .before .before .before .finish .ensures))
+same-length-5 : tie.Need-same-length-5
+same-length-5 c = search needs
+
+same-length-6 : tie.Need-same-length-6
+same-length-6 c = search needs
+
+same-length-7 : tie.Need-same-length-7
+same-length-7 c = search needs
+
+returns-2 : tie.Need-returns-2
+returns-2 c =
+    let p = c .before .before .before .before .before .before .before .before .before .before .before .before .before .before .before .before .before .before .before .before .before .before .before .before .before .before .before .before .before .before .before .before .before .before .before .before .before .before .pre in
+    let s = c .before .before .before .before .before .before .before .before .before .before .before .before .before .before .before .before .before .before .before .before .before .before .before .before .before .before .before .start .ensures in
+    let v = c .before .before .before .before .before .before .before .before .before .before .before .before .before .before .before .before .before .before .before .run-turns .ensures in
+    (v .work-long ∙ s .0, half-done _ _ _ _ _ _ _ _ _ _ _ _ _ _ _ _ _ (s .1) v (turns-fit _ _ _ _ _ _ _ _ (omega (arith, p)) (omega (arith, p)) (omega (arith, p)) (omega (arith, p)) (omega (arith, p, s .0)) (omega (arith, p)) (omega (arith, p, s .1 .long)) (omega (arith, p))) (c .before .before .before .before .before .before .before .before .before .before .before .ran .given .1) (c .before .before .before .before .before .before .finish .ensures))
 
 pub decode-spec : {M : Type 1} → statement M
 decode-spec =
     tie.close
     (tie.spec
-    run-half-requires
-    report-requires
-    finish-requires
+    start-requires
+    run-turns-requires
+    enum-known-ran
+    enum-told
+    nothing-requires
     same-length
     same-length-2
     same-length-3
+    returns
+    finish-requires
     same-length-4
-    returns)
+    same-length-5
+    same-length-6
+    same-length-7
+    returns-2)

@@ -2,7 +2,7 @@
 use Prim.Native.Nat.{_-_, _%_, _≤_}
 use lib.ListN.{getD}
 use borrow.Author.Needs.{needs}
-use Rattle.halves.specs.Scans.{Filled}
+use Rattle.halves.specs.Fills.{Filled}
 use Rattle.halves.proofs.ListFills.{fill-none, fill-turn, fill-end}
 use Rattle.halves.proofs.fills.write_flips.Statement.{statement}
 use Rattle.halves.proofs.fills.write_flips.Tie as tie

@@ -1,0 +1,116 @@
+-- The bits of a form's word: with one bit taken out, with a guess replaced, and the highest bit. Assumes nothing.
+use mathlib.Core.Path.{_≡_, sym, ap, ap₂, _∙_, fun-ext, subst}
+use mathlib.Core.Bool.{true, false}
+use mathlib.Core.Logic.{_⊎_, ⊎-elim}
+use Prim.Native.Nat.{ℕ, suc, _+_, _-_, _*_, _/_, _%_, _^_, _≤_, _<_}
+use native.Mathlib.Nat.{eq-zero-or-pos, le-trans, lt-of-le-of-lt, mod-lt, mod-eq-of-lt, div-mul-le-self, div-eq-of-lt-le, one-mul, pow-succ'}
+use native.Mathlib.Omega.{arith}
+use borrow.Author.Tests.{eq-eqb, ne-eqb}
+use lib.Count.{leadingZeros, leading-top}
+use lib.Dec.{eqb}
+use lib.Pow.{pow-pos, high, low, shr-le, split}
+use lib.Bits.{bitOr, bitXor, or-shifted}
+use Rattle.binary.specs.Bits.{_⊕_}
+use Rattle.binary.specs.Packed.{bit}
+use Rattle.binary.proofs.Bits.{⊕-false}
+use Rattle.binary.proofs.WordBits.{order, bit-xor, bit-past, bit-shr, bit-mod, one-shl}
+use Rattle.machine.specs.Machine.{Form, without, replace}
+use Rattle.turns.specs.Sides.{Newest}
+use Rattle.machine.proofs.TakingUp.{without-below, without-above}
+
+----------------------------------------------------------------------
+-- A bit taken out
+
+-- The word that the code computes.
+unfoldable pub closedUp : ℕ → ℕ → ℕ
+closedUp f k = bitOr (f / 2 ^ 1 / 2 ^ k * 2 ^ k % 2 ^ 64) (f % (1 * 2 ^ k % 2 ^ 64))
+
+module _ (f k : ℕ) (word : f < 2 ^ 64) (within : k < 64) where
+  lows : f % 2 ^ k < 2 ^ k
+  lows = mod-lt f (pow-pos k)
+
+  -- Its parts: the bits past k, moved down, and those below it.
+  closed-parts : closedUp f k ≡ f / 2 ^ 1 / 2 ^ k * 2 ^ k + f % 2 ^ k
+  unfolding closedUp
+  closed-parts =
+      let fits : f / 2 ^ 1 / 2 ^ k * 2 ^ k < 2 ^ 64 = lt-of-le-of-lt (le-trans (div-mul-le-self (f / 2 ^ 1) (2 ^ k)) (shr-le f 1)) word in
+      ap₂ bitOr (mod-eq-of-lt fits) (ap (λ (x : ℕ). f % x) (one-shl k within)) ∙ or-shifted (f / 2 ^ 1 / 2 ^ k) k (f % 2 ^ k) lows
+
+  pub closed-bits : (j : ℕ) → bit (closedUp f k) j ≡ without k (bit f) j
+  closed-bits j = ap (λ (x : ℕ). bit x j) closed-parts ∙ ⊎-elim below above (order j k)
+    where
+      parts : ℕ
+      parts = f / 2 ^ 1 / 2 ^ k * 2 ^ k + f % 2 ^ k
+
+      below : j < k → bit parts j ≡ without k (bit f) j
+      below l =
+          sym (bit-mod parts k j l) ∙ ap (λ (x : ℕ). bit x j) (low (f / 2 ^ 1 / 2 ^ k) k lows) ∙ bit-mod f k j l ∙ sym (without-below k j (bit f) l)
+
+      above : k ≤ j → bit parts j ≡ without k (bit f) j
+      above l =
+          let e : k + (j - k) ≡ j = omega arith in
+          let d : 1 + (k + (j - k)) ≡ suc j = omega arith in
+          ap (bit parts) (sym e) ∙ sym (bit-shr parts k (j - k)) ∙ ap (λ (x : ℕ). bit x (j - k)) (high (f / 2 ^ 1 / 2 ^ k) k lows)
+          ∙ bit-shr (f / 2 ^ 1) k (j - k) ∙ bit-shr f 1 (k + (j - k)) ∙ ap (bit f) d ∙ sym (without-above k j (bit f) l)
+
+----------------------------------------------------------------------
+-- A guess replaced in a word
+
+module _ (f k side : ℕ) where
+  -- With guess k the side is added, and without it nothing is; then bit k is taken out.
+  pub replaced-with : (r : ℕ) → f / 2 ^ k % 2 ≡ 1 → ((j : ℕ) → bit r j ≡ without k (bit (bitXor f side)) j)
+      → (j : ℕ) → bit r j ≡ replace k (bit side) (bit f) j
+  unfolding bit
+  replaced-with r t h j =
+      h j ∙ ap (λ (g : Form). without k g j) (fun-ext λ i. bit-xor f side i ∙ rw (eq-eqb (f / 2 ^ k % 2) 1 t))
+
+  replaced-none : bit f k ≡ false → (j : ℕ) → without k (bit f) j ≡ replace k (bit side) (bit f) j
+  replaced-none t j = ap (λ (g : Form). without k g j) (fun-ext λ i. sym (⊕-false (bit f i)) ∙ rw t)
+
+  pub replaced-without : (r : ℕ) → (f / 2 ^ k % 2 ≡ 1 → ⊥) → ((j : ℕ) → bit r j ≡ without k (bit f) j)
+      → (j : ℕ) → bit r j ≡ replace k (bit side) (bit f) j
+  unfolding bit
+  replaced-without r t h j = h j ∙ replaced-none (ne-eqb (f / 2 ^ k % 2) 1 t) j
+
+  -- A word with neither bit k nor a later one.
+  pub replaced-low : f / 2 ^ k ≡ 0 → (j : ℕ) → bit f j ≡ replace k (bit side) (bit f) j
+  replaced-low t j = closed ∙ replaced-none (none k (omega arith)) j
+    where
+      small : f < 2 ^ k
+      small = omega (arith, rw t at (split f k), mod-lt f (pow-pos k))
+
+      none : (i : ℕ) → k ≤ i → bit f i ≡ false
+      none i l = bit-past f k i small l
+
+      closed : bit f j ≡ without k (bit f) j
+      closed =
+          ⊎-elim (λ (l : j < k). sym (without-below k j (bit f) l))
+          (λ (l : k ≤ j). none j l ∙ sym (none (suc j) (omega arith)) ∙ sym (without-above k j (bit f) l)) (order j k)
+
+----------------------------------------------------------------------
+-- The highest bit
+
+top-set : (n k : ℕ) → 2 ^ k ≤ n → n < 2 ^ suc k → bit n k ≡ true
+unfolding bit
+top-set n k l h =
+    let e : n / 2 ^ k ≡ 1 = div-eq-of-lt-le (2 ^ k) (rw one-mul l) (rw (← pow-succ' 2 k) h) in
+    ap (λ (x : ℕ). eqb (x % 2) 1) e
+
+-- A word's leading zeros, and its newest guess.
+module _ (word : ℕ) (more : 1 < word) (fits : word < 2 ^ 64) where
+  pub zeros-few : leadingZeros 64 word ≤ 63
+  zeros-few = omega (arith, leading-top 64 word (omega arith) fits .1)
+
+  pub newest-top : Newest word (63 - leadingZeros 64 word)
+  newest-top =
+      let t = leading-top 64 word (omega arith) fits in
+      let e : t .0 ≡ 63 - leadingZeros 64 word = omega (arith, t .1) in
+      subst (Newest word) e (record {
+        guess = ⊎-elim (λ (z : t .0 ≡ 0). absurd (one z (t .3))) (λ p. p) (eq-zero-or-pos (t .0));
+        within = omega (arith, t .1);
+        has = top-set word (t .0) (t .2) (t .3);
+        last = λ j l. bit-past word (suc (t .0)) j (t .3) l;
+      })
+    where
+      one : {j : ℕ} → j ≡ 0 → word < 2 ^ suc j → ⊥
+      one e h = let z : word < 2 = rw e at h in omega arith

@@ -1,0 +1,16 @@
+-- `turns::fits` meets its contract. Assumes nothing.
+use mathlib.Core.Path.{refl}
+use Rattle.turns.specs.Runs.{fits?}
+use borrow.Author.Needs.{needs}
+use Rattle.turns.proofs.fits.Statement.{statement}
+use Rattle.turns.proofs.fits.Tie as tie
+
+add-last : tie.Need-add-last
+add-last c = search needs
+
+returns : tie.Need-returns
+unfolding fits?
+returns c = refl
+
+pub fits-spec : {M : Type 1} → statement M
+fits-spec = tie.close (tie.spec add-last returns)

@@ -1,0 +1,74 @@
+-- `turns::forms::replace_guess` meets its contract: the first q forms are done. Assumes nothing.
+use mathlib.Core.Path.{_≡_}
+use mathlib.Core.Logic.{⊎-elim}
+use Prim.Native.Nat.{_≤_, _-_}
+use native.Mathlib.Omega.{arith}
+use borrow.Author.Needs.{needs}
+use Rattle.turns.specs.Sides.{Replaced}
+use Rattle.turns.proofs.FormWords.{replaced-start, replaced-turn, replaced-skip}
+use Rattle.turns.proofs.forms.replace_guess.Statement.{statement}
+use Rattle.turns.proofs.forms.replace_guess.Tie as tie
+
+abbrev Inv-loop : tie.InvT-loop
+Inv-loop n k side forms₀ q₀ forms q = (q ≤ n) × Replaced q k side forms₀ forms
+
+abbrev μ-loop : tie.MeasureT-loop
+μ-loop n k side forms₀ q₀ forms q = n - q
+
+loop-holds : tie.Need-loop-holds Inv-loop μ-loop
+loop-holds c = (search needs, replaced-start _ _ _)
+
+mul-form : tie.Need-mul-form Inv-loop μ-loop
+mul-form c = search needs
+
+slice-read-form : tie.Need-slice-read-form Inv-loop μ-loop
+slice-read-form c = search needs
+
+shr-if1 : tie.Need-shr-if1 Inv-loop μ-loop
+shr-if1 c = search needs
+
+replaced-requires : tie.Need-replaced-requires Inv-loop μ-loop
+replaced-requires c κs = search needs
+
+mul-forms : tie.Need-mul-forms Inv-loop μ-loop
+mul-forms c = search needs
+
+slice-write-forms : tie.Need-slice-write-forms Inv-loop μ-loop
+slice-write-forms c = search needs
+
+add-q : tie.Need-add-q Inv-loop μ-loop
+add-q c = search needs
+
+loop-less : tie.Need-loop-less Inv-loop μ-loop
+loop-less c = search needs
+
+loop-again : tie.Need-loop-again Inv-loop μ-loop
+loop-again c =
+    let l = c .before .before .before .loop in
+    ⊎-elim (λ w. rw (w .2) (omega arith, replaced-turn _ _ _ _ _ (l .inv .1) (omega arith) _ (w .1 .ensures)))
+    (λ w. rw (w .1) (omega arith, replaced-skip _ _ _ _ _ (l .inv .1) (omega arith) (w .0 .left))) (c .if1 .came)
+
+same-length : tie.Need-same-length Inv-loop μ-loop
+same-length c = search needs
+
+returns : tie.Need-returns Inv-loop μ-loop
+returns c = let e : c .before .loop .q ≡ c .before .before .before .args .n = omega arith in rw e at (c .before .loop .inv .1)
+
+pub replace-guess-spec : {M : Type 1} → statement M
+replace-guess-spec =
+    tie.close
+    (tie.spec
+    Inv-loop
+    μ-loop
+    loop-holds
+    mul-form
+    slice-read-form
+    shr-if1
+    replaced-requires
+    mul-forms
+    slice-write-forms
+    add-q
+    loop-less
+    loop-again
+    same-length
+    returns)

@@ -1,0 +1,48 @@
+-- `turns::forms::take_up_row` meets its contract. Assumes nothing.
+use denote.Ref.{now}
+use borrow.Author.Needs.{needs}
+use Rattle.turns.proofs.FormRows.{row-taken, row-left}
+use Rattle.turns.proofs.forms.take_up_row.Statement.{statement}
+use Rattle.turns.proofs.forms.take_up_row.Tie as tie
+
+row-at-requires : tie.Need-row-at-requires
+row-at-requires c κs = search needs
+
+closes-requires : tie.Need-closes-requires
+closes-requires c κs = search needs
+
+cast-at : tie.Need-cast-at
+cast-at c = search needs
+
+shared-slice-read-take-up : tie.Need-shared-slice-read-take-up
+shared-slice-read-take-up c = search needs
+
+take-up-requires : tie.Need-take-up-requires
+take-up-requires c κs = search needs
+
+same-length : tie.Need-same-length
+same-length c = search needs
+
+returns : tie.Need-returns
+returns c =
+    let at = c .before .before .before .before .before .before in
+    let args = at .before .before .before .before .before .before .before .before .args in
+    row-taken _ _ _ (now (args .lit)) (now (args .marks)) _ _ _ (args .live) _ _ (at .before .before .row-at .ensures) _ (at .before .closes .ensures) (at .if1 .taken) _ _ (c .before .before .take-up .ensures)
+
+returns-2 : tie.Need-returns-2
+returns-2 c =
+    let start = c .before .before .before .before .before .before .before .before in
+    row-left _ _ _ (now (start .args .lit)) (now (start .args .marks)) _ _ _ _ _ _ (c .before .before .row-at .ensures) _ (c .before .closes .ensures) (c .if1 .left) (start .pre .3)
+
+pub take-up-row-spec : {M : Type 1} → statement M
+take-up-row-spec =
+    tie.close
+    (tie.spec
+    row-at-requires
+    closes-requires
+    cast-at
+    shared-slice-read-take-up
+    take-up-requires
+    same-length
+    returns
+    returns-2)

@@ -1,0 +1,26 @@
+-- `turns::forms::without_bit` meets its contract: the word is the one of `closed-bits`. Assumes nothing.
+use borrow.Author.Needs.{needs}
+use lib.Pow.{pow-pos}
+use Rattle.turns.proofs.FormBits.{closedUp, closed-bits}
+use Rattle.binary.proofs.WordBits.{one-shl}
+use Rattle.turns.proofs.forms.without_bit.Statement.{statement}
+use Rattle.turns.proofs.forms.without_bit.Tie as tie
+
+shr-result : tie.Need-shr-result
+shr-result c = search needs
+
+shl-result : tie.Need-shl-result
+shl-result c = search needs
+
+shl-result-2 : tie.Need-shl-result-2
+shl-result-2 c = search needs
+
+rem-result : tie.Need-rem-result
+rem-result c = rw (one-shl (c .args .k) (c .pre)) (pow-pos (c .args .k))
+
+returns : tie.Need-returns
+unfolding closedUp
+returns c = closed-bits (c .args .form) (c .args .k) (c .fits .form .fits) (c .pre)
+
+pub without-bit-spec : {M : Type 1} → statement M
+without-bit-spec = tie.close (tie.spec shr-result shl-result shl-result-2 rem-result returns)

@@ -1,0 +1,63 @@
+-- `turns::rows::count_marks` meets its contract: the marks so far are counted. Assumes nothing.
+use mathlib.Core.Path.{_≡_, refl, ap, _∙_}
+use mathlib.Core.Logic.{⊎-elim}
+use Prim.Native.Nat.{ℕ, _-_, _≤_}
+use native.Mathlib.Omega.{arith}
+use denote.Ref.{now}
+use borrow.Author.Needs.{needs}
+use Rattle.machine.specs.Report.{marked}
+use Rattle.machine.specs.Lists.{view}
+use Rattle.turns.proofs.Scanning.{marked-yes, marked-no}
+use Rattle.turns.proofs.rows.count_marks.Statement.{statement}
+use Rattle.turns.proofs.rows.count_marks.Tie as tie
+
+abbrev Inv-loop : tie.InvT-loop
+Inv-loop n marks m total₀ q₀ total q = (q ≤ n) × (total ≤ q) × (total ≡ marked q (view n marks) m)
+
+abbrev μ-loop : tie.MeasureT-loop
+μ-loop n marks m total₀ q₀ total q = n - q
+
+loop-holds : tie.Need-loop-holds Inv-loop μ-loop
+loop-holds c = (search needs, search needs, refl)
+
+shared-slice-read-if1 : tie.Need-shared-slice-read-if1 Inv-loop μ-loop
+shared-slice-read-if1 c = search needs
+
+add-total : tie.Need-add-total Inv-loop μ-loop
+add-total c = search needs
+
+add-q : tie.Need-add-q Inv-loop μ-loop
+add-q c = search needs
+
+loop-less : tie.Need-loop-less Inv-loop μ-loop
+loop-less c = search needs
+
+loop-again : tie.Need-loop-again Inv-loop μ-loop
+loop-again c =
+    let at = c .before .before .before in
+    let args = at .before .args in (
+      search needs,
+      ⊎-elim (λ x. omega arith) (λ x. omega arith) (c .if1 .came),
+      ⊎-elim (λ x. x .1 ∙ marked-yes (args .n) (now (args .marks)) (args .m) (at .loop .q) (search needs) (at .loop .total) (at .loop .inv .2) (x .0 .taken))
+          (λ x. x .1 ∙ marked-no (args .n) (now (args .marks)) (args .m) (at .loop .q) (search needs) (at .loop .total) (at .loop .inv .2) (x .0 .left)) (c .if1 .came),
+    )
+
+returns : tie.Need-returns Inv-loop μ-loop
+returns c =
+    let args = c .before .before .args in
+    let done : c .before .loop .q ≡ args .n = omega arith in
+    c .before .loop .inv .2 ∙ ap (λ (k : ℕ). marked k (view (args .n) (now (args .marks))) (args .m)) done
+
+pub count-marks-spec : {M : Type 1} → statement M
+count-marks-spec =
+    tie.close
+    (tie.spec
+    Inv-loop
+    μ-loop
+    loop-holds
+    shared-slice-read-if1
+    add-total
+    add-q
+    loop-less
+    loop-again
+    returns)

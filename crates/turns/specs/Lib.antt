@@ -1,0 +1,5 @@
+pub mod Lists
+pub mod Sides
+pub mod Scans
+pub mod Turns
+pub mod Runs

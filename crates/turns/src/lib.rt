@@ -1,0 +1,105 @@
+// The turns of a half, from the marks of its start.
+ghost use mathlib.Core.Path.{_≡_};
+ghost use lib.ListN.{length};
+ghost use Rattle.turns.specs.Runs.{fits?, Runs};
+
+mod forms;
+mod guesses;
+mod half;
+mod rows;
+mod turns;
+
+use code::Qubit;
+use code::Row;
+use machine::HalfReport;
+use machine::Word;
+
+// The answer to the turns of a half: none were made, or the report of the half.
+pub enum RunAnswer {
+    Refused,
+    Over(HalfReport),
+}
+
+// What a scan of a row's open qubits finds.
+enum Open {
+    Closed,
+    One(Qubit),
+    More,
+}
+
+// The lowest dangling row and its open qubit.
+enum Dangling {
+    NoRow,
+    At(Row, Qubit),
+}
+
+// The qubit that the guess rule names.
+enum Choice {
+    NoQubit,
+    Named(Qubit),
+}
+
+// What taking up rows comes to: the half ends in none, or so many guesses are live.
+enum Taken {
+    Failed,
+    Live(u16),
+}
+
+// A turn, or that the budget is spent.
+enum Move {
+    Spent,
+    Made(Taken),
+}
+
+// How a half ended: the word, the turns made and the live guesses.
+struct Ended {
+    word: Word,
+    turns: u16,
+    live: u16,
+}
+
+// Whether the sizes are document 01's and the lists long enough.
+fn fits(
+    n: u16,
+    lit: &[u8],
+    first: u16,
+    count: u16,
+    budget: u8,
+    work: &[u64],
+    marks: &[u8],
+    forms: &[u64],
+) -> bool
+    ensures { λ r. ⌜ r ≡ fits? n (length (now (lit .entry))) first count budget (length (now (work .entry))) (length (now (marks .entry))) (length (now (forms .entry))) ⌝ }
+{
+    let size = n as usize;
+    let last = first as usize + count as usize;
+    let small = (n <= 1024) & (count <= 512) & (first <= 512) & (budget <= 63);
+    let long = small & (8192 <= work.len()) & (last <= lit.len());
+    long & (size <= marks.len()) & (size <= forms.len())
+}
+
+// From the marks of the start, the closed rows are taken up; then turns are made until a test before a turn ends the half, or a row that is
+// taken up. The half's rows are `count` from row `first` on; marks and forms are left as the half ended.
+pub fn run_turns(
+    n: u16,
+    flat: &[u16],
+    ends: &[u16],
+    lit: &[u8],
+    first: Row,
+    count: u16,
+    budget: u8,
+    limit: u16,
+    work: &mut [u64],
+    marks: &mut [u8],
+    forms: &mut [u64],
+) -> RunAnswer
+    ensures { λ r. ⌜ Runs n (record { flat = now (flat .entry); ends = now (ends .entry); lit = now (lit .entry); first = first .0; count = count }) budget limit (now (work .entry)) (now (work .exit)) (record { marks = now (marks .entry); forms = now (forms .entry) }) (record { marks = now (marks .exit); forms = now (forms .exit) }) r ⌝ }
+{
+    let own = first.0;
+    if !fits(n, lit, own, count, budget, work, marks, forms) {
+        return RunAnswer::Refused;
+    }
+    RunAnswer::Over(half::run_marked(
+        n, flat, ends, lit, own, count, budget, limit, work, marks, forms,
+    ))
+}
