@@ -8,7 +8,7 @@ use mathlib.Core.List.{List, [], _∷_, List·Memᴰ, List·Memᴰ·head, List·
 use Prim.Native.Nat.{ℕ, suc, _<_}
 use Rattle.binary.specs.Bits.{_⊕_}
 use Rattle.binary.specs.Meaning.{Qubits, Row, Below, has, product, IsProduct, fixed?}
-use Rattle.binary.specs.Search.{Sums, empty, plus, Left}
+use Rattle.binary.specs.Elimination.{Sums, empty, plus, Left}
 use Rattle.binary.proofs.Bits.{⊕-false, ⊕-shuffle, ⊕-self, ⊕-comm, ⊕-assoc, ⊕-cancel, &&-⊕, &&-true, bit, never}
 use Rattle.binary.proofs.Rows.{choice, empty-product, sum-product}
 use Rattle.binary.proofs.Tests.{fixed-out, fixed-in}

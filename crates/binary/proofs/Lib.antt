@@ -4,8 +4,3 @@ pub mod Tests
 pub mod Classes
 pub mod Elimination
 pub mod WordBits
-pub mod Words
-pub mod Put
-pub mod Columns
-pub mod Search
-pub mod Passes

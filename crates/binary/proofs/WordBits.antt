@@ -11,7 +11,7 @@ use lib.Dec.{eqb, lit<, eqb·suc-zero}
 use lib.Pow.{pow-pos, pow-lt, pow-mono, shr-shr, field, mod-mod-pow, shl-exact}
 use lib.Bits.{bitOr, bitXor, or-shr, or-mod, xor-shr, xor-mod}
 use Rattle.binary.specs.Bits.{_⊕_}
-use Rattle.binary.specs.Packed.{bit}
+use Rattle.binary.specs.Words.{bit}
 
 pub order : (a b : ℕ) → (a < b) ⊎ (b ≤ a)
 order a b = go (decLt a b)

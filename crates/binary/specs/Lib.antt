@@ -1,5 +1,5 @@
 pub mod Bits
 pub mod Meaning
 pub mod Classes
-pub mod Packed
-pub mod Search
+pub mod Words
+pub mod Elimination

@@ -10,7 +10,7 @@ use lib.ListN.{length, getD, take, drop, length-drop}
 use lib.Seq.{getD-drop, take-all}
 use borrow.Author.Tests.{le-leb}
 use Rattle.binary.specs.Meaning.{Row, All}
-use Rattle.binary.specs.Packed.{listed}
+use Rattle.binary.specs.Words.{listed}
 use Rattle.binary.proofs.Bits.{and-in}
 use Rattle.code.specs.Lists.{rowsFrom, rowsBetween, Flat}
 use Rattle.code.specs.Tests.{Ascending}

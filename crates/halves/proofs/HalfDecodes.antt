@@ -9,7 +9,7 @@ use native.Mathlib.Omega.{arith}
 use lib.Dec.{eqb, leb}
 use lib.ListN.{length, getD}
 use borrow.Author.Tests.{lt-ltb, le-leb, leb-true}
-use Rattle.binary.specs.Packed.{bit}
+use Rattle.binary.specs.Words.{bit}
 use Rattle.binary.proofs.Bits.{bit as cases, never, and-out, and-in}
 use Rattle.binary.proofs.WordBits.{bit-zero}
 use Rattle.machine.specs.declared.Word.{Word}
@@ -103,7 +103,7 @@ half-done n c lost other others budget limit marks marks₁ forms correction wor
           let o = v .over fits in
           let same : o .0 ≡ r = cc in
           let w = subst (λ (x : HalfReport). Ran n mid x (decoded h budget limit)) same
-              (subst (Ran n mid (o .0)) (sym (decoded-is n c lost other others budget limit marks marks₁ begun good)) (o .2 own)) in
+          (subst (Ran n mid (o .0)) (sym (decoded-is n c lost other others budget limit marks marks₁ begun good)) (o .2 own)) in
           (w .report, ended-shows n (record { marks = marks; forms = forms }) mid correction new r (decoded h budget limit) kept w f marks forms refl);
     }
   where

@@ -9,7 +9,7 @@ use lib.Dec.{eqb, ltb}
 use lib.ListN.{getD}
 use borrow.Author.Tests.{lt-ltb}
 use Rattle.binary.specs.Meaning.{Qubits, Check, All, fixed?}
-use Rattle.binary.specs.Packed.{listed}
+use Rattle.binary.specs.Words.{listed}
 use Rattle.code.specs.Lists.{rowAt, rowsFrom}
 use Rattle.code.specs.Tests.{Ascending}
 use Rattle.machine.specs.Machine.{isOpen, closed?, takeUpAll, blank, stage, startMark, start, degree, most, run, readings, checks, decoded}

@@ -8,7 +8,7 @@ use native.Mathlib.Omega.{arith}
 use borrow.Author.Tests.{lt-ltb, eq-eqb, ne-eqb}
 use lib.ListN.{length, getD, set, length-set}
 use lib.Seq.{getD-set-same, getD-set-other}
-use Rattle.binary.specs.Packed.{listed}
+use Rattle.binary.specs.Words.{listed}
 use Rattle.halves.specs.Fills.{Filled, openMark}
 
 pub fill-none : (f : ℕ → ℕ) (l : List ℕ) → Filled f 0 l l

@@ -6,7 +6,7 @@ use mathlib.Core.Bool.{cond}
 use mathlib.Core.List.{List}
 use Prim.Native.Nat.{ℕ, _≤_, _<_}
 use lib.ListN.{length, getD}
-use Rattle.binary.specs.Packed.{listed}
+use Rattle.binary.specs.Words.{listed}
 
 -- Elements past n stay.
 pub record Filled (f : ℕ → ℕ) (n : ℕ) (list list′ : List ℕ) : Type 0 where

@@ -5,7 +5,7 @@ use mathlib.Core.List.{List}
 use Prim.Native.Nat.{ℕ, _+_}
 use lib.Dec.{eqb, ltb}
 use lib.ListN.{getD}
-use Rattle.binary.specs.Packed.{listed}
+use Rattle.binary.specs.Words.{listed}
 use Rattle.code.specs.Lists.{rowsFrom}
 use Rattle.machine.specs.Machine.{Half}
 

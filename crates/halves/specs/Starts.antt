@@ -12,7 +12,8 @@ use Prim.Native.Nat.{ℕ, _+_, _%_, _≤_}
 use lib.Dec.{leb}
 use lib.ListN.{length, getD}
 use Rattle.binary.specs.Meaning.{All, fixed?}
-use Rattle.binary.specs.Packed.{wordsFor, Packed, listed}
+use Rattle.binary.specs.Words.{listed}
+use Rattle.search.specs.Packed.{wordsFor, Packed}
 use Rattle.code.specs.Lists.{rowsFrom}
 use Rattle.code.specs.Tests.{Ascending}
 use Rattle.machine.specs.declared.Word.{Word}

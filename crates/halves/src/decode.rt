@@ -22,11 +22,11 @@ fn pack_rows(n: u16, flat: &[u16], ends: &[u16], other: u16, others: u16, work: 
     requires { ⌜ (n ≤ 1024) × (others ≤ 512) × (other ≤ 512) × (8192 ≤ length (now work)) ⌝ }
     ensures { λ _. ⌜ PackedFrom n (now (flat .entry)) (now (ends .entry)) other others (now (work .entry)) (now (work .exit)) ⌝ }
 {
-    let words = binary::words_for(n);
+    let words = search::words_for(n);
     let mut i: u16 = 0;
     while i < others {
         let row = code::row_at(flat, ends, Row(other + i));
-        binary::put_row(work, words, index(i), row);
+        search::put_row(work, words, index(i), row);
         i += 1;
     }
 }
@@ -47,7 +47,7 @@ fn start(
 {
     fills::start_marks(n as usize, lost, marks);
     pack_rows(n, flat, ends, other, others, work);
-    binary::mark_fixed(n, others as usize, lost, work, marks);
+    search::mark_fixed(n, others as usize, lost, work, marks);
 }
 
 // Whether the half ended in none.

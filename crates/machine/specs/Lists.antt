@@ -11,7 +11,7 @@ use mathlib.Core.List.{List}
 use Prim.Native.Nat.{ℕ, _≤_, _<_}
 use lib.Dec.{eqb, ltb}
 use lib.ListN.{length, getD}
-use Rattle.binary.specs.Packed.{bit}
+use Rattle.binary.specs.Words.{bit}
 use Rattle.machine.specs.declared.HalfReport.{HalfReport}
 use Rattle.machine.specs.Machine.{Form}
 use Rattle.machine.specs.Report.{Shown}

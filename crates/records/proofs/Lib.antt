@@ -1,3 +1,5 @@
 pub mod HeldStates
 pub mod Answers
 pub mod Range
+pub mod KindBytes
+pub mod Lengths

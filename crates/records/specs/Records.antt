@@ -4,6 +4,7 @@
 --   Kind        the kinds of record
 --   kindOf      the kind that a byte names
 --   bodyOf      the length of a kind's body
+--   wholeLength the length of a record, its kind byte counted; of an unknown kind no body is read
 --   Record      a record read: of no kind, not of its length, or a kind with the numbers of its body
 --   recordOf    the record that bytes are
 use mathlib.Core.Bool.{Bool, true, false, _&&_, cond}
@@ -51,6 +52,10 @@ bodyOf sizes = 6
 bodyOf decode = 3
 bodyOf (rowOf p w) = 2 * w
 bodyOf (member s) = 2
+
+abbrev pub wholeLength : Option Kind → ℕ
+wholeLength none = 1
+wholeLength (some k) = suc (bodyOf k)
 
 -- Numbers in bodies are two bytes, low byte first.
 unfoldable pub number : List ℕ → ℕ → ℕ

@@ -3,6 +3,7 @@ mod states;
 
 ghost use mathlib.Core.Path.{_≡_};
 ghost use lib.ListN.{length};
+ghost use Rattle.records.specs.Records.{kindOf, wholeLength};
 ghost use Rattle.records.specs.Table.{refusalNumber, inRange};
 ghost use Rattle.records.specs.Lists.{held, shortLists};
 ghost use Rattle.records.specs.States.{freshState, withoutCode};
@@ -139,4 +140,18 @@ pub fn short_lists(flat: &[u16], ends: &[u16], shot: &[u8], work: &[u64]) -> boo
     ensures { λ r. ⌜ r ≡ shortLists (held (now (flat .entry)) (now (ends .entry)) (now (shot .entry))) (length (now (work .entry))) ⌝ }
 {
     (flat.len() < 16384) | (ends.len() < 1024) | (shot.len() < 2048) | (work.len() < 8192)
+}
+
+// How many bytes a record has, its kind byte counted; of an unknown kind no body is read.
+pub fn whole_length(kind: u8) -> usize
+    ensures { λ r. ⌜ r ≡ wholeLength (kindOf kind) ⌝ }
+{
+    match kind {
+        1 => 7,
+        2 | 3 | 4 => 3,
+        5 => 4,
+        33..=48 => 1 + 2 * (kind as usize - 32),
+        65..=80 => 1 + 2 * (kind as usize - 64),
+        _ => 1,
+    }
 }

@@ -1,1 +1,4 @@
 pub mod Blocks
+pub mod Lines
+pub mod Progress
+pub mod Records

@@ -1,24 +1,8 @@
 // Records in a block of input.
 use libc::STDIN_FILENO;
-ghost use mathlib.Core.Path.{_≡_};
-ghost use Prim.Native.Nat.{_+_, _≤_};
+ghost use Prim.Native.Nat.{_+_, _-_, _≤_};
 ghost use lib.ListN.{length};
-ghost use Rattle.stream.specs.Records.{kindOf};
-ghost use Rattle.shots.specs.Blocks.{wholeLength};
-
-// How many bytes a record has, its kind byte counted; of an unknown kind no body is read.
-fn whole_length(kind: u8) -> usize
-    ensures { λ r. ⌜ r ≡ wholeLength (kindOf kind) ⌝ }
-{
-    match kind {
-        1 => 7,
-        2 | 3 | 4 => 3,
-        5 => 4,
-        33..=48 => 1 + 2 * (kind as usize - 32),
-        65..=80 => 1 + 2 * (kind as usize - 64),
-        _ => 1,
-    }
-}
+ghost use Rattle.libc.specs.Io.{Moved};
 
 // How many bytes the record at `at` has: 0 where more has to be read, and what is left of it where the input has ended.
 pub fn record_at(bytes: &[u8], at: usize, ended: bool) -> usize
@@ -29,7 +13,7 @@ pub fn record_at(bytes: &[u8], at: usize, ended: bool) -> usize
     if left == 0 {
         return 0;
     }
-    let whole = whole_length(bytes[at]);
+    let whole = records::whole_length(bytes[at]);
     if whole <= left {
         return whole;
     }
@@ -39,13 +23,28 @@ pub fn record_at(bytes: &[u8], at: usize, ended: bool) -> usize
     0
 }
 
-// One read to the block behind the `held` bytes; answers how many there are then.
+// One read to the block behind the `held` bytes.
+fn read_behind(block: &mut [u8], held: usize) -> isize
+    requires { ⌜ held ≤ length (now block) ⌝ }
+    ensures { λ r. ⌜ Moved (length (now (block .entry)) - held) r ⌝ }
+{
+    let end = block.len();
+    libc::read(STDIN_FILENO, &mut block[held..end])
+}
+
+// Reads to the block behind the `held` bytes, again where a read was interrupted; answers how many bytes there are then. A proved loop
+// has to end, so the reads are counted down from a number that no input uses up.
 pub fn refill(block: &mut [u8], held: usize) -> usize
     requires { ⌜ held ≤ length (now block) ⌝ }
     ensures { λ r. ⌜ (held ≤ r) × (r ≤ length (now (block .exit))) ⌝ }
 {
+    let mut got = read_behind(block, held);
+    let mut reads = u64::MAX;
+    while reads > 0 && got < 0 && os::errno() == libc::EINTR {
+        got = read_behind(block, held);
+        reads -= 1;
+    }
     let end = block.len();
-    let got = libc::read(STDIN_FILENO, &mut block[held..end]);
     held + io::count(got, &block[held..end])
 }
 

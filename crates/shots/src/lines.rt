@@ -1,18 +1,20 @@
 // The lines of an answer.
-use crate::output::put_byte;
-use crate::output::put_number;
-use crate::output::put_text;
+use crate::text::put_byte;
+use crate::text::put_number;
+use crate::text::put_text;
 use machine::HalfReport;
 use machine::Word;
-use stream::Answer;
-use stream::Refusal;
-use stream::Sizes;
-ghost use Rattle.shots.specs.Blocks.{Room};
+use records::Answer;
+use records::Refusal;
+use records::Sizes;
+ghost use Prim.Native.Nat.{_+_, _*_, _≤_};
+ghost use lib.ListN.{length};
+ghost use Rattle.shots.specs.Lines.{flipsMost, lineMost, answerMost, Room, Put};
 
 // The word of a half.
 fn put_word(out: &mut [u8], at: usize, word: Word) -> usize
-    requires { ⌜ Room at (now out) ⌝ }
-    ensures { λ r. ⌜ Room r (now (out .exit)) ⌝ }
+    requires { ⌜ Room at 8 (now out) ⌝ }
+    ensures { λ r. ⌜ Put at 8 r ⌝ }
 {
     match word {
         Word::Certain => put_text(out, at, b" certain"),
@@ -23,35 +25,50 @@ fn put_word(out: &mut [u8], at: usize, word: Word) -> usize
     }
 }
 
+// The smaller number.
+fn least(a: usize, b: usize) -> usize
+    ensures { λ r. ⌜ (r ≤ a) × (r ≤ b) ⌝ }
+{
+    if a < b {
+        return a;
+    }
+    b
+}
+
+// The first flipped qubit from `from` on; `end` where there is none below it.
+fn next_flip(correction: &[u8], from: usize, end: usize) -> usize
+    requires { ⌜ (from ≤ end) × (end ≤ length (now correction)) ⌝ }
+    ensures { λ r. ⌜ (from ≤ r) × (r ≤ end) ⌝ }
+{
+    let mut q = from;
+    while q < end {
+        if correction[q] != 0 {
+            return q;
+        }
+        q += 1;
+    }
+    q
+}
+
 // The flipped ones of the first n qubits, ascending.
 fn put_flipped(out: &mut [u8], at: usize, correction: &[u8], n: usize) -> usize
-    requires { ⌜ Room at (now out) ⌝ }
-    ensures { λ r. ⌜ Room r (now (out .exit)) ⌝ }
+    requires { ⌜ (length (now correction) ≤ 1024) × Room at (5 * length (now correction) + 16) (now out) ⌝ }
+    ensures { λ r. ⌜ Put at (5 * length (now (correction .entry))) r ⌝ }
 {
+    let most = least(n, correction.len());
     let mut end = at;
-    let mut q: usize = 0;
-    while q < n && q < correction.len() {
-        end = put_flip(out, end, correction[q], q as u64);
-        q += 1;
+    let mut q = next_flip(correction, 0, most);
+    while q < most {
+        end = put_number(out, end, q as u64);
+        q = next_flip(correction, q + 1, most);
     }
     end
 }
 
-// A qubit, where its element of the correction says that it is flipped.
-fn put_flip(out: &mut [u8], at: usize, flipped: u8, q: u64) -> usize
-    requires { ⌜ Room at (now out) ⌝ }
-    ensures { λ r. ⌜ Room r (now (out .exit)) ⌝ }
-{
-    if flipped == 0 {
-        return at;
-    }
-    put_number(out, at, q)
-}
-
 // Only a finished half has flips.
 fn put_flips(out: &mut [u8], at: usize, word: Word, correction: &[u8], n: usize) -> usize
-    requires { ⌜ Room at (now out) ⌝ }
-    ensures { λ r. ⌜ Room r (now (out .exit)) ⌝ }
+    requires { ⌜ (length (now correction) ≤ 1024) × Room at flipsMost (now out) ⌝ }
+    ensures { λ r. ⌜ Put at flipsMost r ⌝ }
 {
     if !machine::is_finished(word) {
         return at;
@@ -62,8 +79,8 @@ fn put_flips(out: &mut [u8], at: usize, word: Word, correction: &[u8], n: usize)
 
 // The four counts of a half.
 fn put_counts(out: &mut [u8], at: usize, half: HalfReport) -> usize
-    requires { ⌜ Room at (now out) ⌝ }
-    ensures { λ r. ⌜ Room r (now (out .exit)) ⌝ }
+    requires { ⌜ Room at 84 (now out) ⌝ }
+    ensures { λ r. ⌜ Put at 84 r ⌝ }
 {
     let mut end = put_number(out, at, half.fixed as u64);
     end = put_number(out, end, half.turns as u64);
@@ -80,8 +97,8 @@ fn put_half(
     correction: &[u8],
     n: usize,
 ) -> usize
-    requires { ⌜ Room at (now out) ⌝ }
-    ensures { λ r. ⌜ Room r (now (out .exit)) ⌝ }
+    requires { ⌜ (length (now correction) ≤ 1024) × Room at lineMost (now out) ⌝ }
+    ensures { λ r. ⌜ Put at lineMost r ⌝ }
 {
     let word = half.word;
     let mut end = put_byte(out, at, name);
@@ -93,8 +110,8 @@ fn put_half(
 
 // The line of a complete code.
 fn put_code(out: &mut [u8], at: usize, sizes: Sizes) -> usize
-    requires { ⌜ Room at (now out) ⌝ }
-    ensures { λ r. ⌜ Room r (now (out .exit)) ⌝ }
+    requires { ⌜ Room at lineMost (now out) ⌝ }
+    ensures { λ r. ⌜ Put at lineMost r ⌝ }
 {
     let mut end = put_text(out, at, b"code");
     end = put_number(out, end, sizes.n as u64);
@@ -105,19 +122,19 @@ fn put_code(out: &mut [u8], at: usize, sizes: Sizes) -> usize
 
 // The line of a refusal.
 fn put_refusal(out: &mut [u8], at: usize, r: Refusal, kind: u8) -> usize
-    requires { ⌜ Room at (now out) ⌝ }
-    ensures { λ r. ⌜ Room r (now (out .exit)) ⌝ }
+    requires { ⌜ Room at lineMost (now out) ⌝ }
+    ensures { λ r. ⌜ Put at lineMost r ⌝ }
 {
     let mut end = put_text(out, at, b"refused");
-    end = put_number(out, end, stream::refusal_number(r) as u64);
+    end = put_number(out, end, records::refusal_number(r) as u64);
     end = put_number(out, end, kind as u64);
     put_byte(out, end, b'\n')
 }
 
 // The line of an answer that is no report; a record that was only taken has none.
 fn put_other(out: &mut [u8], at: usize, answer: Answer, kind: u8) -> usize
-    requires { ⌜ Room at (now out) ⌝ }
-    ensures { λ r. ⌜ Room r (now (out .exit)) ⌝ }
+    requires { ⌜ Room at lineMost (now out) ⌝ }
+    ensures { λ r. ⌜ Put at lineMost r ⌝ }
 {
     match answer {
         Answer::Refused(r) => put_refusal(out, at, r, kind),
@@ -137,8 +154,8 @@ pub fn put_answer(
     z: &[u8],
     n: usize,
 ) -> usize
-    requires { ⌜ Room at (now out) ⌝ }
-    ensures { λ r. ⌜ Room r (now (out .exit)) ⌝ }
+    requires { ⌜ (length (now x) ≤ 1024) × (length (now z) ≤ 1024) × Room at answerMost (now out) ⌝ }
+    ensures { λ r. ⌜ Put at answerMost r ⌝ }
 {
     let Answer::Decoded(report) = answer else {
         return put_other(out, at, answer, kind);

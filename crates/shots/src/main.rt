@@ -1,24 +1,28 @@
 // Reads records from standard input, and writes the lines of their answers to standard output.
+mod blocks;
+mod failure;
 mod input;
 mod lines;
-mod output;
-mod records;
+mod progress;
 mod run;
+mod taking;
+mod text;
 
-// The lists of code and shot at their least lengths, and the blocks in which the program reads and writes.
+// The lists of code and shot at their least lengths, the blocks in which the program reads and writes, and places for the records that a
+// block of output answers.
 fn main() {
     let mut flat = [0u16; 16384];
     let mut ends = [0u16; 1024];
-    let mut lost = [0u8; 1024];
-    let mut lit = [0u8; 1024];
+    let mut shot = [0u8; 2048];
     let mut input = io::large_buffer();
     let mut out = io::large_buffer();
+    let mut places = [0usize; 16384];
     run::run(
         &mut flat,
         &mut ends,
-        &mut lost,
-        &mut lit,
+        &mut shot,
         &mut input,
         &mut out,
+        &mut places,
     );
 }

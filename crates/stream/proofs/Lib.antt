@@ -1,4 +1,4 @@
 pub mod Numbers
-pub mod KindBytes
+pub mod RecordBytes
 pub mod Taking
 pub mod Tied

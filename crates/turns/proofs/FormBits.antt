@@ -11,7 +11,7 @@ use lib.Dec.{eqb}
 use lib.Pow.{pow-pos, high, low, shr-le, split}
 use lib.Bits.{bitOr, bitXor, or-shifted}
 use Rattle.binary.specs.Bits.{_⊕_}
-use Rattle.binary.specs.Packed.{bit}
+use Rattle.binary.specs.Words.{bit}
 use Rattle.binary.proofs.Bits.{⊕-false}
 use Rattle.binary.proofs.WordBits.{order, bit-xor, bit-past, bit-shr, bit-mod, one-shl}
 use Rattle.machine.specs.Machine.{Form, without, replace}

@@ -14,7 +14,7 @@ use lib.ListN.{length, getD, set, drop, drop-of-length-le, length-set}
 use lib.Seq.{drop-cons, getD-set-same, getD-set-other, set-getD}
 use Rattle.binary.specs.Bits.{_⊕_}
 use Rattle.binary.specs.Meaning.{Row, Check, odd}
-use Rattle.binary.specs.Packed.{bit}
+use Rattle.binary.specs.Words.{bit}
 use Rattle.binary.proofs.Bits.{⊕-false, ⊕-assoc, &&-false, never}
 use Rattle.turns.specs.declared.Taken.the-variants.{Failed, Live}
 use Rattle.machine.specs.Machine.{Form, side, newest, without, replace, takeAt, takeUp, oneLess}

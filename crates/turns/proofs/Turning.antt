@@ -12,7 +12,7 @@ use lib.Seq.{getD-set-same, getD-set-other}
 use lib.ListN.{length-set}
 use borrow.Author.Tests.{lt-ltb}
 use Rattle.binary.specs.Meaning.{Qubits, Row, Check, has}
-use Rattle.binary.specs.Packed.{bit}
+use Rattle.binary.specs.Words.{bit}
 use Rattle.binary.proofs.Bits.{bit as cases, never, eqb-eq, eq-eqb, eqb-differ, or-out, iff-eq}
 use Rattle.binary.proofs.WordBits.{bit-pow, one-shl}
 use Rattle.code.specs.Lists.{rowAt}

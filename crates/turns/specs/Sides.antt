@@ -12,7 +12,7 @@ use mathlib.Core.List.{List}
 use Prim.Native.Nat.{ℕ, _≤_, _<_}
 use lib.ListN.{length, getD}
 use Rattle.binary.specs.Meaning.{Qubits, Row, Check, has}
-use Rattle.binary.specs.Packed.{bit}
+use Rattle.binary.specs.Words.{bit}
 use Rattle.machine.specs.Machine.{Forms, side, replace, isOpen, closed?, takeIf}
 use Rattle.machine.specs.Lists.{view}
 use Rattle.turns.specs.Lists.{withLive}

@@ -13,7 +13,7 @@ use Prim.Native.Nat.{ℕ, suc, _≤_, _<_}
 use lib.Dec.{eqb}
 use lib.ListN.{length, getD}
 use Rattle.binary.specs.Meaning.{Qubits, Check}
-use Rattle.binary.specs.Packed.{bit}
+use Rattle.binary.specs.Words.{bit}
 use Rattle.turns.specs.declared.Taken.{Taken}
 use Rattle.turns.specs.declared.Taken.the-variants.{Failed, Live}
 use Rattle.turns.specs.declared.Move.{Move}

@@ -3,7 +3,7 @@ ghost use mathlib.Core.Path.{_≡_};
 ghost use mathlib.Core.Bool.{cond};
 ghost use Prim.Native.Nat.{ℕ, _+_, _≤_, _<_};
 ghost use lib.ListN.{length};
-ghost use Rattle.binary.specs.Packed.{bit};
+ghost use Rattle.binary.specs.Words.{bit};
 ghost use Rattle.machine.specs.Machine.{without, replace, isOpen, takeUp, takeUpAll};
 ghost use Rattle.machine.specs.Lists.{view};
 ghost use Rattle.turns.specs.Lists.{withLive, checkAt, checksFrom, Topped, TookUp};

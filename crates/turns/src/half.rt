@@ -28,7 +28,19 @@ fn take_up_closed(
     ensures { λ t. ⌜ TookClosed n (record { flat = now (flat .entry); ends = now (ends .entry); lit = now (lit .entry); first = first; count = count }) (now (marks .entry)) (now (forms .entry)) (now (forms .exit)) t ⌝ }
 {
     lists::clear_words(forms, 0, n);
-    forms::take_up_rows(n, flat, ends, lit, first, count, marks, true, Qubit(0), 0, forms)
+    forms::take_up_rows(
+        n,
+        flat,
+        ends,
+        lit,
+        first,
+        count,
+        marks,
+        true,
+        Qubit(0),
+        0,
+        forms,
+    )
 }
 
 // The closed rows, then the turns.
@@ -113,7 +125,17 @@ pub fn run_marked(
 {
     let size = n as usize;
     let ended = turn_half(
-        size, flat, ends, lit, first, count, budget, limit, work, marks, forms,
+        size,
+        flat,
+        ends,
+        lit,
+        first,
+        count,
+        budget,
+        limit,
+        work,
+        marks,
+        forms,
     );
     report(size, ended, marks)
 }

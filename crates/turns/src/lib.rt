@@ -100,6 +100,16 @@ pub fn run_turns(
         return RunAnswer::Refused;
     }
     RunAnswer::Over(half::run_marked(
-        n, flat, ends, lit, own, count, budget, limit, work, marks, forms,
+        n,
+        flat,
+        ends,
+        lit,
+        own,
+        count,
+        budget,
+        limit,
+        work,
+        marks,
+        forms,
     ))
 }

@@ -1,6 +1,6 @@
 -- `stream::shapes::named` meets its contract. Assumes nothing.
 use native.Mathlib.Omega.{arith}
-use Rattle.stream.proofs.KindBytes.{kind-size, kind-lost, kind-lit-z, kind-lit-x, kind-decode, kind-low, kind-row-x, kind-mid, kind-row-z, kind-high}
+use Rattle.records.proofs.KindBytes.{kind-size, kind-lost, kind-lit-z, kind-lit-x, kind-decode, kind-low, kind-row-x, kind-mid, kind-row-z, kind-high}
 use borrow.Author.Needs.{needs}
 use Rattle.stream.proofs.shapes.named.Statement.{statement}
 use Rattle.stream.proofs.shapes.named.Tie as tie

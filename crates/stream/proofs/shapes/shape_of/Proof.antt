@@ -1,7 +1,7 @@
 -- `stream::shapes::shape_of` meets its contract. Assumes nothing.
 use denote.Ref.{now}
 use mathlib.Core.Path.{sym, _∙_}
-use Rattle.stream.proofs.KindBytes.{record-empty, record-unknown, record-wrong, record-right}
+use Rattle.stream.proofs.RecordBytes.{record-empty, record-unknown, record-wrong, record-right}
 use borrow.Author.Needs.{needs}
 use Rattle.stream.proofs.shapes.shape_of.Statement.{statement}
 use Rattle.stream.proofs.shapes.shape_of.Tie as tie

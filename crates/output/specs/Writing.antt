@@ -1,0 +1,51 @@
+-- Writing out. Of a write no contract says more than how many bytes it took.
+--   passing  the errors after which a write is tried again: EINTR, interrupted, and EAGAIN, no room for now
+--   Step     what one write of the bytes behind the first k of n answers: what is taken stays so, and one that failed took nothing
+--   Written  what writing n bytes answers: how many were taken, and that it failed exactly where they are fewer
+--   Whole    the records, from the first, whose lines lie within the first k bytes; each place is where a record's lines end
+--   total    a sum of counts; one that does not fit stays at the largest number
+--   Taken    the output after a text with the places of its records: the bytes taken are counted, and the records that they answer in full
+--   Flushed  the same of an output that has not failed; one that has takes nothing more
+use mathlib.Core.Path.{_≡_}
+use mathlib.Core.Bool.{Bool, true, false, _||_}
+use mathlib.Core.List.{List}
+use Prim.Native.Nat.{ℕ, _+_, _-_, _^_, _≤_, _<_, min}
+use lib.Dec.{eqb, ltb}
+use lib.IntN.{ℤ, pos, negsuc}
+use lib.ListN.{length, getD}
+use Rattle.output.specs.declared.Wrote.{Wrote}
+use Rattle.output.specs.declared.Output.{Output}
+
+abbrev pub passing : ℤ → Bool
+passing (pos e) = eqb e 11 || eqb e 4
+passing (negsuc e) = false
+
+pub record Step (k n : ℕ) (w : Wrote) : Type 0 where
+  pub kept : k ≤ w .count
+  pub most : w .count ≤ n
+  pub failed : w .failed ≡ true → w .count ≡ k
+
+pub record Written (n : ℕ) (w : Wrote) : Type 0 where
+  pub most : w .count ≤ n
+  pub failed : w .failed ≡ ltb (w .count) n
+
+pub record Whole (places : List ℕ) (k r : ℕ) : Type 0 where
+  pub most : r ≤ length places
+  pub each : (i : ℕ) → i < r → getD places i 0 ≤ k
+  pub next : r < length places → k < getD places r 0
+
+abbrev pub total : ℕ → ℕ → ℕ
+total a b = min (a + b) (2 ^ 64 - 1)
+
+pub record Taken (o : Output) (text places : List ℕ) (r : Output) : Type 0 where
+  pub wrote : Wrote
+  pub whole : ℕ
+  pub written : Written (length text) wrote
+  pub answered : Whole places (wrote .count) whole
+  pub bytes : r .bytes ≡ total (o .bytes) (wrote .count)
+  pub records : r .records ≡ total (o .records) whole
+  pub failed : r .failed ≡ wrote .failed
+
+pub record Flushed (o : Output) (text places : List ℕ) (r : Output) : Type 0 where
+  pub shut : o .failed ≡ true → r ≡ o
+  pub taken : o .failed ≡ false → Taken o text places r

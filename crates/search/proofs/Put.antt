@@ -1,0 +1,111 @@
+-- A row is put into the work list: its words are emptied, and its bits set one by one. Assumes nothing.
+use mathlib.Core.Path.{_≡_, refl, sym, ap, _∙_, subst}
+use mathlib.Core.Bool.{true, false, _&&_, _||_, or-assoc, or-false, and-false}
+use mathlib.Core.Logic.{_⊎_, ⊎-elim}
+use mathlib.Core.List.{List, [], _∷_, _++_}
+use Prim.Native.Nat.{ℕ, _+_, _*_, _≤_, _<_}
+use native.Mathlib.Numerals.{add-one}
+use native.Mathlib.Omega.{arith}
+use borrow.Author.Tests.{le-leb, lt-leb, lt-ltb, le-ltb, leb-true}
+use lib.Bits.{bitXor}
+use lib.Dec.{eqb, leb, ltb}
+use lib.ListN.{length, getD, drop, length-append, List·getD-append}
+use lib.Seq.{drop-cons, drop-length, getD-append-seam}
+use Rattle.binary.specs.Bits.{_⊕_}
+use Rattle.binary.specs.Meaning.{Row, has}
+use Rattle.search.specs.Packed.{cell, Packed, room, Put}
+use Rattle.search.specs.Search.{Run, BitsSet}
+use Rattle.binary.proofs.Bits.{⊕-self, never, and-out}
+use Rattle.search.proofs.Words.{other-cells, run-cells}
+use Rattle.binary.proofs.WordBits.{order, bit-xor}
+
+----------------------------------------------------------------------
+-- Room
+
+pub room-yes : (w i size : ℕ) → w ≤ 16 → i < 512 → (i + 1) * w ≤ size → room w i size ≡ true
+unfolding room
+room-yes w i size a b c = rw (le-leb w 16 a, lt-ltb i 512 b) (le-leb ((i + 1) * w) size c)
+
+pub room-wide : (w i size : ℕ) → 16 < w → room w i size ≡ false
+unfolding room
+room-wide w i size h = rw (lt-leb w 16 h)
+
+pub room-high : (w i size : ℕ) → 512 ≤ i → room w i size ≡ false
+unfolding room
+room-high w i size h = rw (le-ltb i 512 h, and-false (leb w 16))
+
+pub room-short : (w i size : ℕ) → size < (i + 1) * w → room w i size ≡ false
+unfolding room
+room-short w i size h = rw (lt-leb ((i + 1) * w) size h) (and-false (leb w 16 && ltb i 512))
+
+pub room-out : (w i size : ℕ) → room w i size ≡ true → (i + 1) * w ≤ size
+unfolding room
+room-out w i size t = leb-true ((i + 1) * w) size (and-out (leb w 16 && ltb i 512) (leb ((i + 1) * w) size) t .1)
+
+----------------------------------------------------------------------
+-- The row
+
+-- The first j qubits of the row are in.
+pub record Setting (w i : ℕ) (row m₀ m : List ℕ) (j : ℕ) : Type 0 where
+  pub cells : (c : ℕ) → c < 64 * w → (cell m w i c || has (drop j row) c) ≡ (cell m₀ w i c || has row c)
+  pub kept : (k : ℕ) → (k < i * w) ⊎ (i * w + w ≤ k) → getD m k 0 ≡ getD m₀ k 0
+
+pub set-start : (w i : ℕ) (row m : List ℕ) → Setting w i row m m 0
+set-start w i row m = record { cells = λ c h. refl; kept = λ k h. refl }
+
+pub set-more : (w i : ℕ) (row m₀ m m′ : List ℕ) (j : ℕ) → j < length row → Setting w i row m₀ m j → BitsSet w i (eqb (getD row j 0)) m m′
+    → Setting w i row m₀ m′ (j + 1)
+set-more w i row m₀ m m′ j l s b =
+    record {
+      cells = λ c h.
+          ap (_|| has (drop (j + 1) row) c) (b .cells c h)
+          ∙ or-assoc (cell m w i c) (eqb (getD row j 0) c) (has (drop (j + 1) row) c)
+          ∙ ap (λ (k : ℕ). cell m w i c || (eqb (getD row j 0) c || has (drop k row) c)) (add-one j)
+          ∙ ap (λ (r : List ℕ). cell m w i c || has r c) (sym (drop-cons row j 0 l))
+          ∙ s .cells c h;
+      kept = λ k h. b .kept k h ∙ s .kept k h;
+    }
+
+pub set-end : (w i : ℕ) (row m₀ m : List ℕ) → Setting w i row m₀ m (length row) → BitsSet w i (has row) m₀ m
+set-end w i row m₀ m s =
+    record {
+      cells = λ c h. sym (or-false (cell m w i c)) ∙ ap (λ (r : List ℕ). cell m w i c || has r c) (sym (drop-length row)) ∙ s .cells c h;
+      kept = s .kept;
+    }
+
+pub put-done : (w i : ℕ) (row m m′ m″ : List ℕ) → Run bitXor (i * w) (i * w) w m m′ → BitsSet w i (has row) m′ m″ → length m″ ≡ length m
+    → room w i (length m) ≡ true → Put w i row m m″ true
+put-done w i row m m′ m″ s b l e =
+    record {
+      answer = sym e;
+      size = l;
+      cells = λ _ c h. b .cells c h ∙ ap (_|| has row c) (run-cells bitXor _⊕_ bit-xor w i i m m′ s c h ∙ ⊕-self (cell m w i c));
+      rest = λ _ k h. b .kept k h ∙ s .kept k h;
+      refused = λ t. never refl t;
+    }
+
+pub put-refused : (w i : ℕ) (row m : List ℕ) → room w i (length m) ≡ false → Put w i row m m false
+put-refused w i row m e =
+    record { answer = sym e; size = refl; cells = λ t. never t refl; rest = λ t. never t refl; refused = λ _. refl }
+
+----------------------------------------------------------------------
+-- Rows put one after the other
+
+pub packed-none : (n w : ℕ) (m : List ℕ) → Packed n w [] m
+packed-none n w m = record { fit = omega arith; cells = λ i q h. absurd (omega arith) }
+
+pub packed-more : (n w : ℕ) (rows : List Row) (row m m′ : List ℕ) → n ≤ 64 * w → Packed n w rows m → Put w (length rows) row m m′ true
+    → Packed n w (rows ++ row ∷ []) m′
+packed-more n w rows row m m′ wide s p =
+    record {
+      fit = rw (length-append rows (row ∷ []), p .size) (room-out w (length rows) (length m) (sym (p .answer)));
+      cells = λ i q h l.
+          let k : i < length rows + 1 = subst (λ (x : ℕ). i < x) (length-append rows (row ∷ [])) h in
+          ⊎-elim
+          (λ (g : i < length rows).
+          other-cells w (length rows) m m′ (p .rest refl) i q (λ e. omega arith) (omega arith) ∙ s .cells i q g l
+          ∙ ap (λ (r : Row). has r q) (sym (List·getD-append rows (row ∷ []) [] i g)))
+          (λ (g : length rows ≤ i). let e : i ≡ length rows = omega arith in
+          rw e (p .cells refl q (omega arith) ∙ ap (λ (r : Row). has r q) (sym (getD-append-seam rows row [] []))))
+          (order i (length rows));
+    }
