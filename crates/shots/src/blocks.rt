@@ -38,7 +38,7 @@ fn flushed(p: Progress, output: Output, block: &[u8], out: &[u8], places: &[usiz
     }
 }
 
-// Takes records until there is no room for another answer, with lists for their decodes, and writes their lines.
+// Takes records until there is no room for another answer, and writes their lines.
 fn one_buffer(
     b: Block,
     flat: &mut [u16],
@@ -51,30 +51,8 @@ fn one_buffer(
     requires { ⌜ Begins b (now block) (now out) (now places) ⌝ }
     ensures { λ r. ⌜ Went b (now (block .entry)) r ⌝ }
 {
-    let mut work = [0u64; 8192];
-    let mut x_marks = [0u8; 1024];
-    let mut x_forms = [0u64; 1024];
-    let mut x_correction = [0u8; 1024];
-    let mut z_marks = [0u8; 1024];
-    let mut z_forms = [0u64; 1024];
-    let mut z_correction = [0u8; 1024];
     let begun = b.progress;
-    let p = taking::all_records(
-        begun,
-        flat,
-        ends,
-        shot,
-        &mut work,
-        &mut x_marks,
-        &mut x_forms,
-        &mut x_correction,
-        &mut z_marks,
-        &mut z_forms,
-        &mut z_correction,
-        block,
-        out,
-        places,
-    );
+    let p = taking::all_records(begun, flat, ends, shot, block, out, places);
     let output = b.output;
     flushed(p, output, block, out, places)
 }

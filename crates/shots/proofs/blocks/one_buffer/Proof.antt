@@ -4,36 +4,15 @@ use borrow.Author.Needs.{needs}
 use Rattle.shots.proofs.blocks.one_buffer.Statement.{statement}
 use Rattle.shots.proofs.blocks.one_buffer.Tie as tie
 
-slice-aggregate-all-records : tie.Need-slice-aggregate-all-records
-slice-aggregate-all-records c = search needs
-
-slice-aggregate-all-records-2 : tie.Need-slice-aggregate-all-records-2
-slice-aggregate-all-records-2 c = search needs
-
-slice-aggregate-all-records-3 : tie.Need-slice-aggregate-all-records-3
-slice-aggregate-all-records-3 c = search needs
-
-slice-aggregate-all-records-4 : tie.Need-slice-aggregate-all-records-4
-slice-aggregate-all-records-4 c = search needs
-
-slice-aggregate-all-records-5 : tie.Need-slice-aggregate-all-records-5
-slice-aggregate-all-records-5 c = search needs
-
-slice-aggregate-all-records-6 : tie.Need-slice-aggregate-all-records-6
-slice-aggregate-all-records-6 c = search needs
-
-slice-aggregate-all-records-7 : tie.Need-slice-aggregate-all-records-7
-slice-aggregate-all-records-7 c = search needs
-
 all-records-requires : tie.Need-all-records-requires
 all-records-requires c κs = search needs
 
 flushed-requires : tie.Need-flushed-requires
 flushed-requires c κs =
-    let w = c .before .before .before .before .before .before .before .before .before .before .before .before .before .before .before .before .before .before .before .before .all-records .ensures .0 in record { taken = omega (arith, w .next); put = w .put; noted = w .noted; ends = w .ends }
+    let w = c .before .before .before .before .before .before .before .before .before .before .before .before .before .all-records .ensures .0 in record { taken = omega (arith, w .next); put = w .put; noted = w .noted; ends = w .ends }
 
 same-length : tie.Need-same-length
-same-length c = c .before .before .before .before .before .before .before .before .before .before .before .before .before .before .before .before .before .before .before .before .before .all-records .kept .1 .0
+same-length c = c .before .before .before .before .before .before .before .before .before .before .before .before .before .before .all-records .kept .1 .0
 
 same-length-2 : tie.Need-same-length-2
 same-length-2 c = search needs
@@ -50,19 +29,12 @@ same-length-5 c = search needs
 returns : tie.Need-returns
 returns c =
     let e = c .flushed .ensures in
-    record { more = omega (arith, c .before .before .before .before .before .before .before .before .before .before .before .before .before .before .before .before .before .before .before .before .before .all-records .ensures .1, e .taken); next = e .next; put = e .put; noted = e .noted; stops = e .stops }
+    record { more = omega (arith, c .before .before .before .before .before .before .before .before .before .before .before .before .before .before .all-records .ensures .1, e .taken); next = e .next; put = e .put; noted = e .noted; stops = e .stops }
 
 pub one-buffer-spec : {M : Type 1} → statement M
 one-buffer-spec =
     tie.close
     (tie.spec
-    slice-aggregate-all-records
-    slice-aggregate-all-records-2
-    slice-aggregate-all-records-3
-    slice-aggregate-all-records-4
-    slice-aggregate-all-records-5
-    slice-aggregate-all-records-6
-    slice-aggregate-all-records-7
     all-records-requires
     flushed-requires
     same-length
