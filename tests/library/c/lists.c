@@ -8,11 +8,11 @@
 #include <string.h>
 
 enum { FLAT, ENDS, SHOT, WORK, X_MARKS, X_FORMS, X_CORRECTION, Z_MARKS, Z_FORMS, Z_CORRECTION, LISTS };
-enum { N = 4, SHOT = 3, DECODE = 6, RECORDS = 9 };
+enum { N = 4, SHOT_BEGINS = 3, DECODE = 6, RECORDS = 9 };
 
 static const char *const names[LISTS] = {
     "flat", "ends", "shot", "work", "x_marks", "x_forms", "x_correction", "z_marks", "z_forms", "z_correction"};
-static const size_t widths[LISTS] = {2, 2, 1, 1, 8, 1, 8, 1, 1, 8, 1};
+static const size_t widths[LISTS] = {2, 2, 1, 8, 1, 8, 1, 1, 8, 1};
 static const size_t least[LISTS] = {RACK_FLAT, RACK_ENDS, RACK_SHOT, RACK_WORK, N, N, N, N, N, N};
 
 /* The records and their answers. */
@@ -158,7 +158,7 @@ static void one_short(int list, size_t length, int record) {
     if (counts) {
         expect(same(&cut, &lent), record, "as it was");
         lent.state = cut.state;
-        run(&lent, record == DECODE ? SHOT : record, RECORDS);
+        run(&lent, record == DECODE ? SHOT_BEGINS : record, RECORDS);
     }
     end(&cut);
     end(&lent);
