@@ -8,12 +8,11 @@ use native.Mathlib.Nat.{le-refl}
 use native.Mathlib.Decide.{ℕ-discrete}
 use native.Mathlib.Omega.{arith}
 use borrow.Author.Tests.{eq-eqb, ne-eqb, lt-ltb, ltb-true}
-use lib.Bits.{bitXor}
 use lib.Dec.{eqb, ltb}
 use Rattle.binary.specs.Bits.{_⊕_}
 use Rattle.binary.specs.Meaning.{Qubits}
 use Rattle.search.specs.Packed.{cell}
-use Rattle.search.specs.Search.{second, Run, First, Later, former, Column, Clears, LeftAt}
+use Rattle.search.specs.Search.{joinedBy, Run, First, Later, former, Column, Clears, LeftAt}
 use Rattle.binary.proofs.Bits.{⊕-false, &&-false, never, bit}
 use Rattle.binary.proofs.Elimination.{Cleared}
 use Rattle.search.proofs.Words.{other-cells, run-cells}
@@ -59,9 +58,9 @@ later-skipped w i j q m₀ m room after s r e z =
     later-more w i j q m₀ m m room after s (λ c h. rw (← e, z) (sym (⊕-false (cell m w j c)))) (λ l c n h. refl)
 
 pub later-added : (w i j q : ℕ) (m₀ m m′ : List ℕ) → q < 64 * w → i < j → Later w i j q m₀ m
-    → (r : Bool) → r ≡ cell m w j q → r ≡ true → Run bitXor (i * w) (j * w) w m m′ → Later w i (j + 1) q m₀ m′
+    → (r : Bool) → r ≡ cell m w j q → r ≡ true → Run (joinedBy true) (i * w) (j * w) w m m′ → Later w i (j + 1) q m₀ m′
 later-added w i j q m₀ m m′ room after s r e o a =
-    later-more w i j q m₀ m m′ room after s (λ c h. rw (← e, o) (run-cells bitXor _⊕_ bit-xor w i j m m′ a c h)) (other-cells w j m m′ (a .kept))
+    later-more w i j q m₀ m m′ room after s (λ c h. rw (← e, o) (run-cells (joinedBy true) _⊕_ bit-xor w i j m m′ a c h)) (other-cells w j m m′ (a .kept))
 
 ----------------------------------------------------------------------
 -- The column cleared
@@ -92,7 +91,7 @@ module _ (w top rows q i : ℕ) (m m′ : List ℕ) (room : q < 64 * w) (f : Fir
             cells = λ j c l b h. rw (ne-eqb j i (λ g. omega arith)) (stays j c (omega arith) b (λ g. omega arith) h);
           }
 
-  pub clears-moved : (m″ : List ℕ) → (i ≡ top → ⊥) → Run second (top * w) (i * w) w m′ m″ → Clears w top rows q m m″ true
+  pub clears-moved : (m″ : List ℕ) → (i ≡ top → ⊥) → Run (joinedBy false) (top * w) (i * w) w m′ m″ → Clears w top rows q m m″ true
   clears-moved m″ n r =
       record { cleared = λ _. (i, column); same = λ t. never refl t; blank = λ t. never refl t }
     where
@@ -100,7 +99,7 @@ module _ (w top rows q i : ℕ) (m m′ : List ℕ) (room : q < 64 * w) (f : Fir
           → cell m″ w j c ≡ cell m w (former top i j) c ⊕ (cell m w (former top i j) q && cell m w i c)
       go j c l b h (yes e) =
           rw (eq-eqb j i e, e)
-          (run-cells second (λ x y. y) (λ x y k. refl) w top i m′ m″ r c h ∙ s .kept top c (inl (f .start)) h
+          (run-cells (joinedBy false) (λ x y. y) (λ x y k. refl) w top i m′ m″ r c h ∙ s .kept top c (inl (f .start)) h
           ∙ before top c (le-refl top) (omega (arith, f .start)))
       go j c l b h (no d) =
           rw (ne-eqb j i d) (other-cells w i m′ m″ (r .kept) j c d h ∙ stays j c (omega arith) b d h)

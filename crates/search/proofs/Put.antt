@@ -7,14 +7,13 @@ use Prim.Native.Nat.{ℕ, _+_, _*_, _≤_, _<_}
 use native.Mathlib.Numerals.{add-one}
 use native.Mathlib.Omega.{arith}
 use borrow.Author.Tests.{le-leb, lt-leb, lt-ltb, le-ltb, leb-true}
-use lib.Bits.{bitXor}
 use lib.Dec.{eqb, leb, ltb}
 use lib.ListN.{length, getD, drop, length-append, List·getD-append}
 use lib.Seq.{drop-cons, drop-length, getD-append-seam}
 use Rattle.binary.specs.Bits.{_⊕_}
 use Rattle.binary.specs.Meaning.{Row, has}
 use Rattle.search.specs.Packed.{cell, Packed, room, Put}
-use Rattle.search.specs.Search.{Run, BitsSet}
+use Rattle.search.specs.Search.{joinedBy, Run, BitsSet}
 use Rattle.binary.proofs.Bits.{⊕-self, never, and-out}
 use Rattle.search.proofs.Words.{other-cells, run-cells}
 use Rattle.binary.proofs.WordBits.{order, bit-xor}
@@ -73,13 +72,13 @@ set-end w i row m₀ m s =
       kept = s .kept;
     }
 
-pub put-done : (w i : ℕ) (row m m′ m″ : List ℕ) → Run bitXor (i * w) (i * w) w m m′ → BitsSet w i (has row) m′ m″ → length m″ ≡ length m
+pub put-done : (w i : ℕ) (row m m′ m″ : List ℕ) → Run (joinedBy true) (i * w) (i * w) w m m′ → BitsSet w i (has row) m′ m″ → length m″ ≡ length m
     → room w i (length m) ≡ true → Put w i row m m″ true
 put-done w i row m m′ m″ s b l e =
     record {
       answer = sym e;
       size = l;
-      cells = λ _ c h. b .cells c h ∙ ap (_|| has row c) (run-cells bitXor _⊕_ bit-xor w i i m m′ s c h ∙ ⊕-self (cell m w i c));
+      cells = λ _ c h. b .cells c h ∙ ap (_|| has row c) (run-cells (joinedBy true) _⊕_ bit-xor w i i m m′ s c h ∙ ⊕-self (cell m w i c));
       rest = λ _ k h. b .kept k h ∙ s .kept k h;
       refused = λ t. never refl t;
     }

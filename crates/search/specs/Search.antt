@@ -2,7 +2,7 @@
 --   RowIn          row i lies in the work list
 --   ColumnIn       column q, and the rows from top on, lie in the work list
 --   ColumnsIn      n columns, and the rows from top on, lie in the lists
---   second         the second of two words
+--   joinedBy       the sum of two words, or the second
 --   Run            each of n words becomes f of itself and its word of another run
 --   BitsSet        the bits of a set are set in row i
 --   First          the first row from top on with column q
@@ -20,6 +20,7 @@ use mathlib.Core.Bool.{Bool, true, false, cond, _&&_, _||_}
 use mathlib.Core.Logic.{_⊎_}
 use mathlib.Core.List.{List}
 use Prim.Native.Nat.{ℕ, _+_, _*_, _≤_, _<_}
+use lib.Bits.{bitXor}
 use lib.Dec.{eqb, ltb}
 use lib.ListN.{length, getD}
 use Rattle.binary.specs.Bits.{_⊕_}
@@ -43,8 +44,9 @@ ColumnsIn n w top rows lost work marks = (n ≤ 64 * w) × (top ≤ rows) × (ro
 ----------------------------------------------------------------------
 -- Words
 
-abbrev pub second : ℕ → ℕ → ℕ
-second x y = y
+abbrev pub joinedBy : Bool → ℕ → ℕ → ℕ
+joinedBy true = bitXor
+joinedBy false = λ x y. y
 
 -- The words from b on, by those from a on. The others stay.
 pub record Run (f : ℕ → ℕ → ℕ) (a b n : ℕ) (m m′ : List ℕ) : Type 0 where

@@ -7,7 +7,7 @@ ghost use lib.ListN.{getD};
 ghost use Rattle.binary.specs.Meaning.{has};
 ghost use Rattle.binary.specs.Words.{bit};
 ghost use Rattle.search.specs.Packed.{wordsFor, Put, enough, Marked};
-ghost use Rattle.search.specs.Search.{RowIn, ColumnIn, ColumnsIn, second, Run, BitsSet, First, Later, Clears, Goes};
+ghost use Rattle.search.specs.Search.{RowIn, ColumnIn, ColumnsIn, joinedBy, Run, BitsSet, First, Later, Clears, Goes};
 
 // A qubit as an index.
 fn index(x: u16) -> usize
@@ -23,30 +23,26 @@ pub fn words_for(n: u16) -> usize
     (n as usize + 63) / 64
 }
 
-// Row `from` is added to row `to`. A row added to itself is emptied.
-fn add_row(m: &mut [u64], w: usize, from: usize, to: usize)
-    requires { ⌜ RowIn w from (now m) × RowIn w to (now m) ⌝ }
-    ensures { λ _. ⌜ Run bitXor (from * w) (to * w) w (now (m .entry)) (now (m .exit)) ⌝ }
+// The sum of two words, or the second in the place of the first.
+fn joined(add: bool, old: u64, new: u64) -> u64
+    ensures { λ r. ⌜ r ≡ joinedBy add old new ⌝ }
 {
-    let a = from * w;
-    let b = to * w;
-    let mut k = 0;
-    while k < w {
-        m[b + k] = m[b + k] ^ m[a + k];
-        k += 1;
+    if add {
+        return old ^ new;
     }
+    new
 }
 
-// Row `from` is copied to row `to`.
-fn copy_row(m: &mut [u64], w: usize, from: usize, to: usize)
+// Row `from` is added to row `to`, or copied to it. A row added to itself is emptied.
+fn join_row(m: &mut [u64], w: usize, from: usize, to: usize, add: bool)
     requires { ⌜ RowIn w from (now m) × RowIn w to (now m) ⌝ }
-    ensures { λ _. ⌜ Run second (from * w) (to * w) w (now (m .entry)) (now (m .exit)) ⌝ }
+    ensures { λ _. ⌜ Run (joinedBy add) (from * w) (to * w) w (now (m .entry)) (now (m .exit)) ⌝ }
 {
     let a = from * w;
     let b = to * w;
     let mut k = 0;
     while k < w {
-        m[b + k] = m[a + k];
+        m[b + k] = joined(add, m[b + k], m[a + k]);
         k += 1;
     }
 }
@@ -89,7 +85,7 @@ pub fn put_row(work: &mut [u64], words: usize, i: usize, row: &[u16]) -> bool
     if work.len() < (i + 1) * words {
         return false;
     }
-    add_row(work, words, i, i);
+    join_row(work, words, i, i, true);
     set_bits(work, words, i, row);
     true
 }
@@ -129,7 +125,7 @@ fn add_later(m: &mut [u64], w: usize, i: usize, rows: usize, q: usize)
     let mut j = i + 1;
     while j < rows {
         if has_bit(m, w, j, k, b) {
-            add_row(m, w, i, j);
+            join_row(m, w, i, j, true);
         }
         j += 1;
     }
@@ -148,7 +144,7 @@ fn clear_column(m: &mut [u64], w: usize, top: usize, rows: usize, q: usize) -> b
     if i == top {
         return true;
     }
-    copy_row(m, w, top, i);
+    join_row(m, w, top, i, false);
     true
 }
 

@@ -28,8 +28,8 @@ has-bit-requires c κs =
     let a = c .before .before .before .before .args in
     omega (arith, apart (a .w) (c .before .before .loop .j) (a .rows) (omega arith))
 
-add-row-requires : tie.Need-add-row-requires Inv-loop μ-loop
-add-row-requires c κs =
+join-row-requires : tie.Need-join-row-requires Inv-loop μ-loop
+join-row-requires c κs =
     let l = c .before .before .before .before .before in
     let a = l .before .before .args in
     omega (arith, apart (a .w) (l .loop .j) (a .rows) (omega arith), apart (a .w) (a .i) (a .rows) (omega arith))
@@ -73,7 +73,7 @@ add-later-spec =
     add-j
     loop-holds
     has-bit-requires
-    add-row-requires
+    join-row-requires
     add-j-2
     loop-less
     loop-again

@@ -24,8 +24,8 @@ same-length-2 c = search needs
 returns-2 : tie.Need-returns-2
 returns-2 c = clears-top _ _ _ _ _ _ _ (search needs) (c .before .before .before .before .before .before .find-row .ensures) (search needs) (search needs) (c .if2 .taken)
 
-copy-row-requires : tie.Need-copy-row-requires
-copy-row-requires c κs =
+join-row-requires : tie.Need-join-row-requires
+join-row-requires c κs =
     let f = c .before .before .before .before .before .before .before in
     let a = f .before .before .before .args in
     let i = f .find-row .result in
@@ -38,7 +38,7 @@ returns-3 : tie.Need-returns-3
 returns-3 c =
     let l = c .before .before .before .before .before .before .before in
     let f = l .before .before .before .find-row in
-    clears-moved _ _ _ _ _ _ _ (search needs) (f .ensures) (search needs) (l .add-later .ensures) _ (search needs) (c .before .before .copy-row .ensures)
+    clears-moved _ _ _ _ _ _ _ (search needs) (f .ensures) (search needs) (l .add-later .ensures) _ (search needs) (c .before .before .join-row .ensures)
 
 pub clear-column-spec : {M : Type 1} → statement M
 clear-column-spec =
@@ -50,6 +50,6 @@ clear-column-spec =
     add-later-requires
     same-length-2
     returns-2
-    copy-row-requires
+    join-row-requires
     same-length-3
     returns-3)

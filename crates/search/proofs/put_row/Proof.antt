@@ -23,8 +23,8 @@ mul-if3 c = let a = c .before .before .before .before .args in omega (arith, few
 returns-3 : tie.Need-returns-3
 returns-3 c = put-refused _ _ _ _ (room-short _ _ _ (search needs))
 
-add-row-requires : tie.Need-add-row-requires
-add-row-requires c κs = search needs
+join-row-requires : tie.Need-join-row-requires
+join-row-requires c κs = search needs
 
 set-bits-requires : tie.Need-set-bits-requires
 set-bits-requires c κs = search needs
@@ -35,7 +35,7 @@ same-length c = search needs
 returns-4 : tie.Need-returns-4
 returns-4 c =
     let s = c .before .before .set-bits in
-    let z = c .before .before .before .before .before .before .add-row in
+    let z = c .before .before .before .before .before .before .join-row in
     put-done _ _ _ _ _ _ (z .ensures) (s .ensures) (s .kept .0 ∙ z .kept .0) (room-yes _ _ _ (search needs) (search needs) (search needs))
 
 pub put-row-spec : {M : Type 1} → statement M
@@ -47,7 +47,7 @@ put-row-spec =
     add-if3
     mul-if3
     returns-3
-    add-row-requires
+    join-row-requires
     set-bits-requires
     same-length
     returns-4)
