@@ -18,11 +18,11 @@ use records::Reply;
 use records::Report;
 use records::Sizes;
 use records::State;
-use records::codeless;
-use records::ended;
-use records::in_range;
-use records::refused;
-use records::short_lists;
+use rules::codeless;
+use rules::ended;
+use rules::in_range;
+use rules::refused;
+use rules::short_lists;
 
 // Whether a decode is refused.
 enum Test {

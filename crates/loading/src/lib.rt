@@ -14,8 +14,8 @@ use records::Refusal;
 use records::Reply;
 use records::Sizes;
 use records::State;
-use records::in_range;
-use records::refused;
+use rules::in_range;
+use rules::refused;
 
 // With so many rows in: more are awaited, or the code is complete and has an empty shot.
 fn progress(sizes: Sizes, rows: u16, clash: bool) -> Reply

@@ -149,7 +149,7 @@ fn answered(state: RackState, answer: Answer) -> RackReply
         Answer::Taken => unreported(state, 0, 0),
         Answer::Complete(_) => unreported(state, 1, 0),
         Answer::Decoded(r) => reported(state, r),
-        Answer::Refused(why) => unreported(state, 3, records::refusal_number(why) as u16),
+        Answer::Refused(why) => unreported(state, 3, rules::refusal_number(why) as u16),
     }
 }
 

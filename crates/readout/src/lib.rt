@@ -13,9 +13,9 @@ use records::Refusal;
 use records::Reply;
 use records::Sizes;
 use records::State;
-use records::codeless;
-use records::opened;
-use records::refused;
+use rules::codeless;
+use rules::opened;
+use rules::refused;
 
 // A list that an earlier shot left is cleared, so that it holds this one.
 pub fn begin(st: State, shot: &mut [u8])

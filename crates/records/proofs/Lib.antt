@@ -2,4 +2,3 @@ pub mod HeldStates
 pub mod Answers
 pub mod Range
 pub mod KindBytes
-pub mod Lengths

@@ -13,7 +13,7 @@ pub fn record_at(bytes: &[u8], at: usize, ended: bool) -> usize
     if left == 0 {
         return 0;
     }
-    let whole = records::whole_length(bytes[at]);
+    let whole = rules::whole_length(bytes[at]);
     if whole <= left {
         return whole;
     }

@@ -126,7 +126,7 @@ fn put_refusal(out: &mut [u8], at: usize, r: Refusal, kind: u8) -> usize
     ensures { λ r. ⌜ Put at lineMost r ⌝ }
 {
     let mut end = put_text(out, at, b"refused");
-    end = put_number(out, end, records::refusal_number(r) as u64);
+    end = put_number(out, end, rules::refusal_number(r) as u64);
     end = put_number(out, end, kind as u64);
     put_byte(out, end, b'\n')
 }

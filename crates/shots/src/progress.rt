@@ -33,7 +33,7 @@ fn is_last(answer: Answer) -> bool
     ensures { λ r. ⌜ r ≡ isLast answer ⌝ }
 {
     match answer {
-        Answer::Refused(r) => records::refusal_number(r) <= 2,
+        Answer::Refused(r) => rules::refusal_number(r) <= 2,
         Answer::Taken => false,
         Answer::Complete(_) => false,
         Answer::Decoded(_) => false,

@@ -69,7 +69,7 @@ pub fn run(
 )
     requires { ⌜ (answerMost ≤ length (now out)) × (0 < length (now places)) ⌝ }
 {
-    let st = records::fresh();
+    let st = rules::fresh();
     let none = Output {
         bytes: 0,
         records: 0,

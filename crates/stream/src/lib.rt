@@ -54,6 +54,6 @@ pub fn step(
             z_correction,
         );
     }
-    let short = records::short_lists(flat, ends, shot, work);
+    let short = rules::short_lists(flat, ends, shot, work);
     take::take(st, shape, flat, ends, shot, bytes, short)
 }

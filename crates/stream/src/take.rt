@@ -16,7 +16,7 @@ use code::Row;
 use records::Refusal;
 use records::Reply;
 use records::State;
-use records::refused;
+use rules::refused;
 
 // A row as it stands in a record's bytes.
 fn read_row(

@@ -1,9 +1,9 @@
--- `records::whole_length` meets its contract. Assumes nothing.
+-- `rules::whole_length` meets its contract. Assumes nothing.
 use native.Mathlib.Omega.{arith}
-use Rattle.records.proofs.Lengths.{whole-sizes, whole-number, whole-decode, whole-zero, whole-low, whole-row-x, whole-mid, whole-row-z, whole-high}
+use Rattle.rules.proofs.Lengths.{whole-sizes, whole-number, whole-decode, whole-zero, whole-low, whole-row-x, whole-mid, whole-row-z, whole-high}
 use borrow.Author.Needs.{needs}
-use Rattle.records.proofs.whole_length.Statement.{statement}
-use Rattle.records.proofs.whole_length.Tie as tie
+use Rattle.rules.proofs.whole_length.Statement.{statement}
+use Rattle.rules.proofs.whole_length.Tie as tie
 
 sub-result : tie.Need-sub-result
 sub-result c = search needs

@@ -1,7 +1,7 @@
--- `records::states::after_short` meets its contract. Assumes nothing.
+-- `rules::states::after_short` meets its contract. Assumes nothing.
 use borrow.Author.Needs.{needs}
-use Rattle.records.proofs.states.after_short.Statement.{statement}
-use Rattle.records.proofs.states.after_short.Tie as tie
+use Rattle.rules.proofs.states.after_short.Statement.{statement}
+use Rattle.rules.proofs.states.after_short.Tie as tie
 
 ended-requires : tie.Need-ended-requires
 ended-requires c κs = search needs

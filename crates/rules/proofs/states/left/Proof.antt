@@ -1,7 +1,7 @@
--- `records::states::left` meets its contract: each arm is a line of the table. Assumes nothing.
+-- `rules::states::left` meets its contract: each arm is a line of the table. Assumes nothing.
 use borrow.Author.Needs.{needs}
-use Rattle.records.proofs.states.left.Statement.{statement}
-use Rattle.records.proofs.states.left.Tie as tie
+use Rattle.rules.proofs.states.left.Statement.{statement}
+use Rattle.rules.proofs.states.left.Tie as tie
 
 enum-told : tie.Need-enum-told
 enum-told c = search needs

@@ -1,8 +1,8 @@
--- `records::in_range` meets its contract. Assumes nothing.
+-- `rules::in_range` meets its contract. Assumes nothing.
 use borrow.Author.Needs.{needs}
 use borrow.Author.Tests.{le-leb, lt-leb}
-use Rattle.records.proofs.in_range.Statement.{statement}
-use Rattle.records.proofs.in_range.Tie as tie
+use Rattle.rules.proofs.in_range.Statement.{statement}
+use Rattle.rules.proofs.in_range.Tie as tie
 
 returns : tie.Need-returns
 returns c = rw (lt-leb 1 (c .before .args .n) (search needs))

@@ -1,10 +1,10 @@
--- `records::states::refused` meets its contract. Assumes nothing.
+-- `rules::states::refused` meets its contract. Assumes nothing.
 use mathlib.Core.Path.{ap}
 use Rattle.records.specs.declared.State.{State}
 use Rattle.records.specs.declared.Answer.the-variants.{Refused}
 use borrow.Author.Needs.{needs}
-use Rattle.records.proofs.states.refused.Statement.{statement}
-use Rattle.records.proofs.states.refused.Tie as tie
+use Rattle.rules.proofs.states.refused.Statement.{statement}
+use Rattle.rules.proofs.states.refused.Tie as tie
 
 left-requires : tie.Need-left-requires
 left-requires c κs = search needs

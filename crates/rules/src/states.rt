@@ -1,12 +1,12 @@
 // States that an answer leaves, and the answer that refuses.
-use crate::Answer;
-use crate::Phase;
-use crate::Refusal;
-use crate::Reply;
-use crate::State;
+use records::Answer;
+use records::Phase;
+use records::Refusal;
+use records::Reply;
+use records::State;
 ghost use mathlib.Core.Path.{_≡_};
 ghost use mathlib.Core.Bool.{cond};
 ghost use Rattle.records.specs.States.{droppedOf, spoiledOf, endedOf, openedOf, leftBy, saying};
 
 // No code and no shot.
 fn dropped(st: State) -> State

@@ -1,0 +1,99 @@
+// What the kinds of record share: numbers and lengths, tests of sizes, states and lists, and the states that answers leave.
+mod states;
+
+ghost use mathlib.Core.Path.{_≡_};
+ghost use lib.ListN.{length};
+ghost use Rattle.records.specs.Records.{kindOf, wholeLength};
+ghost use Rattle.records.specs.Table.{refusalNumber, inRange};
+ghost use Rattle.records.specs.Lists.{held, shortLists};
+ghost use Rattle.records.specs.States.{freshState, withoutCode};
+use records::Phase;
+use records::Refusal;
+use records::Sizes;
+use records::State;
+pub use states::ended;
+pub use states::opened;
+pub use states::refused;
+
+// The table's number of a refusal.
+pub fn refusal_number(r: Refusal) -> u8
+    ensures { λ n. ⌜ n ≡ refusalNumber r ⌝ }
+{
+    match r {
+        Refusal::Unknown => 1,
+        Refusal::Length => 2,
+        Refusal::Size => 3,
+        Refusal::Place => 4,
+        Refusal::Row => 5,
+        Refusal::Clash => 6,
+        Refusal::Codeless => 7,
+        Refusal::Range => 8,
+        Refusal::Twice => 9,
+        Refusal::Budget => 10,
+        Refusal::Spoiled => 11,
+        Refusal::Short => 12,
+    }
+}
+
+// At a fresh start there is no code and no shot.
+pub fn fresh() -> State
+    ensures { λ r. ⌜ r ≡ freshState ⌝ }
+{
+    State {
+        phase: Phase::Empty,
+        sizes: Sizes { n: 0, x: 0, z: 0 },
+        rows: 0,
+        clash: false,
+        spoiled: false,
+        stale: false,
+    }
+}
+
+// Whether sizes are in range.
+pub fn in_range(n: u16, x: u16, z: u16) -> bool
+    ensures { λ r. ⌜ r ≡ inRange n x z ⌝ }
+{
+    if n < 1 {
+        return false;
+    }
+    if 1024 < n {
+        return false;
+    }
+    if 512 < x {
+        return false;
+    }
+    z <= 512
+}
+
+// Whether there is no complete code.
+pub fn codeless(st: State) -> bool
+    ensures { λ r. ⌜ r ≡ withoutCode (st .phase) ⌝ }
+{
+    let phase = st.phase;
+    match phase {
+        Phase::Empty => true,
+        Phase::Loading => true,
+        Phase::Ready => false,
+    }
+}
+
+// Whether a list of code, shot or work is below its least length.
+pub fn short_lists(flat: &[u16], ends: &[u16], shot: &[u8], work: &[u64]) -> bool
+    ensures { λ r. ⌜ r ≡ shortLists (held (now (flat .entry)) (now (ends .entry)) (now (shot .entry))) (length (now (work .entry))) ⌝ }
+{
+    (flat.len() < 16384) | (ends.len() < 1024) | (shot.len() < 2048) | (work.len() < 8192)
+}
+
+// How many bytes a record has, its kind byte counted; of an unknown kind no body is read.
+pub fn whole_length(kind: u8) -> usize
+    ensures { λ r. ⌜ r ≡ wholeLength (kindOf kind) ⌝ }
+{
+    match kind {
+        1 => 7,
+        2 | 3 | 4 => 3,
+        5 => 4,
+        33..=48 => 1 + 2 * (kind as usize - 32),
+        65..=80 => 1 + 2 * (kind as usize - 64),
+        _ => 1,
+    }
+}
