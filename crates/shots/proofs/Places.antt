@@ -15,10 +15,6 @@ use Rattle.shots.specs.declared.progress.Progress.{Progress}
 use Rattle.shots.specs.Blocks.{Held}
 use Rattle.shots.specs.Progress.{Noted}
 
--- Nothing is noted.
-pub noted-none : (p : Progress) (places : List ℕ) → p .noted ≡ 0 → Noted p places
-noted-none p places e = record { each = λ i h. absurd (omega arith); last = λ i h. absurd (omega arith) }
-
 -- One more place is noted: that of a record whose lines end where the bytes put do.
 pub noted-more : (p r : Progress) (places : List ℕ) → Noted p places → r .noted ≡ p .noted + 1 → p .put ≤ r .put → p .noted < length places → Noted r (set places (p .noted) (r .put))
 noted-more p r places all n h l =
