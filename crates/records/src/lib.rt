@@ -1,6 +1,9 @@
 // Records, as document 01 means them (specs/): what a call hands over and hands back.
 use machine::HalfReport;
 
+// The version of records, lists and structs, one more whenever one of them changes: a header and an archive tell theirs.
+pub const VERSION: u16 = 1;
+
 // Why a record is refused (document 01, the table).
 pub enum Refusal {
     Unknown,
