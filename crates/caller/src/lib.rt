@@ -20,7 +20,7 @@ pub fn two_records(
 ) -> Reply
     ensures { λ r. ⌜ TwoRecords (now (first .entry)) (now (second .entry)) (lentOf (held (now (flat .entry)) (now (ends .entry)) (now (shot .entry))) (now (work .entry)) (sixOf (now («x_marks» .entry)) (now («x_forms» .entry)) (now («x_correction» .entry)) (now («z_marks» .entry)) (now («z_forms» .entry)) (now («z_correction» .entry)))) (lentOf (held (now (flat .exit)) (now (ends .exit)) (now (shot .exit))) (now (work .exit)) (sixOf (now («x_marks» .exit)) (now («x_forms» .exit)) (now («x_correction» .exit)) (now («z_marks» .exit)) (now («z_forms» .exit)) (now («z_correction» .exit)))) r ⌝ }
 {
-    let start = rules::fresh();
+    let start = states::fresh();
     let to_first = stream::step(
         start,
         flat,

@@ -19,9 +19,9 @@ use records::Report;
 use records::Sizes;
 use records::State;
 use rules::codeless;
-use rules::ended;
+use states::ended;
 use rules::in_range;
-use rules::refused;
+use states::refused;
 use rules::short_lists;
 
 // Whether a decode is refused.

@@ -15,7 +15,7 @@ use records::Reply;
 use records::Sizes;
 use records::State;
 use rules::in_range;
-use rules::refused;
+use states::refused;
 
 // With so many rows in: more are awaited, or the code is complete and has an empty shot.
 fn progress(sizes: Sizes, rows: u16, clash: bool) -> Reply

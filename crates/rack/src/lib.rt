@@ -44,7 +44,7 @@ pub struct RackReply {
 pub extern "C" fn rack_fresh() -> RackState
     ensures { λ r. ⌜ r ≡ plainState freshState ⌝ }
 {
-    plain::state(rules::fresh())
+    plain::state(states::fresh())
 }
 
 // One record: `stream::step` on the state that the numbers stand for.

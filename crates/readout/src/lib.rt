@@ -14,8 +14,8 @@ use records::Reply;
 use records::Sizes;
 use records::State;
 use rules::codeless;
-use rules::opened;
-use rules::refused;
+use states::opened;
+use states::refused;
 
 // A list that an earlier shot left is cleared, so that it holds this one.
 pub fn begin(st: State, shot: &mut [u8])

@@ -1,19 +1,12 @@
-// What the kinds of record share: numbers and lengths, tests of sizes, states and lists, and the states that answers leave.
-mod states;
-
+// What the kinds of record share: the numbers of refusals, and tests of sizes, states and lists.
 ghost use mathlib.Core.Path.{_≡_};
 ghost use lib.ListN.{length};
-ghost use Rattle.records.specs.Records.{kindOf, wholeLength};
 ghost use Rattle.records.specs.Table.{refusalNumber, inRange};
 ghost use Rattle.records.specs.Lists.{held, shortLists};
-ghost use Rattle.records.specs.States.{freshState, withoutCode};
+ghost use Rattle.records.specs.States.{withoutCode};
 use records::Phase;
 use records::Refusal;
-use records::Sizes;
 use records::State;
-pub use states::ended;
-pub use states::opened;
-pub use states::refused;
 
 // The table's number of a refusal.
 pub fn refusal_number(r: Refusal) -> u8
@@ -32,20 +25,6 @@ pub fn refusal_number(r: Refusal) -> u8
         Refusal::Budget => 10,
         Refusal::Spoiled => 11,
         Refusal::Short => 12,
-    }
-}
-
-// At a fresh start there is no code and no shot.
-pub fn fresh() -> State
-    ensures { λ r. ⌜ r ≡ freshState ⌝ }
-{
-    State {
-        phase: Phase::Empty,
-        sizes: Sizes { n: 0, x: 0, z: 0 },
-        rows: 0,
-        clash: false,
-        spoiled: false,
-        stale: false,
     }
 }
 
@@ -82,18 +61,4 @@ pub fn short_lists(flat: &[u16], ends: &[u16], shot: &[u8], work: &[u64]) -> boo
     ensures { λ r. ⌜ r ≡ shortLists (held (now (flat .entry)) (now (ends .entry)) (now (shot .entry))) (length (now (work .entry))) ⌝ }
 {
     (flat.len() < 16384) | (ends.len() < 1024) | (shot.len() < 2048) | (work.len() < 8192)
-}
-
-// How many bytes a record has, its kind byte counted; of an unknown kind no body is read.
-pub fn whole_length(kind: u8) -> usize
-    ensures { λ r. ⌜ r ≡ wholeLength (kindOf kind) ⌝ }
-{
-    match kind {
-        1 => 7,
-        2 | 3 | 4 => 3,
-        5 => 4,
-        33..=48 => 1 + 2 * (kind as usize - 32),
-        65..=80 => 1 + 2 * (kind as usize - 64),
-        _ => 1,
-    }
 }

@@ -69,7 +69,7 @@ pub fn run(
 )
     requires { ⌜ (answerMost ≤ length (now out)) × (0 < length (now places)) ⌝ }
 {
-    let st = rules::fresh();
+    let st = states::fresh();
     let none = Output {
         bytes: 0,
         records: 0,

@@ -1,4 +1,2 @@
-pub mod Numbers
-pub mod RecordBytes
 pub mod Taking
 pub mod Tied

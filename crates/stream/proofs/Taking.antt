@@ -23,36 +23,36 @@ use Rattle.records.proofs.Answers.{answered-refused, promised}
 use Rattle.records.proofs.Range.{long-lists}
 use Rattle.loading.specs.Loading.{RowTaken}
 use Rattle.readout.specs.Readout.{Adds}
-use Rattle.stream.specs.declared.Shape.{Shape}
-use Rattle.stream.specs.declared.Shape.the-variants.{Unknown, Wrong, Size, Lose, Light, Decode}
-use Rattle.stream.specs.Shapes.{decode?, RecordAs}
+use Rattle.reading.specs.declared.Shape.{Shape}
+use Rattle.reading.specs.declared.Shape.the-variants.{Unknown, Wrong, Size, Lose, Light, Decode}
+use Rattle.reading.specs.Shapes.{decode?, RecordAs}
 use Rattle.stream.specs.Takes.{Takes}
-use Rattle.stream.proofs.Numbers.{numbers-length}
+use Rattle.reading.proofs.Numbers.{numbers-length}
 
 -- The part of an array that holds the numbers of a record's bytes is a row.
 pub row-read : (p : Pauli) (st : State) (flat ends body bytes : List ℕ) (w : ℕ) (short : Bool) (r : Reply) (flat′ ends′ : List ℕ)
-    → take w body ≡ numbers bytes 1 w → RowTaken p st flat ends (take (w - 0) (drop 0 body)) short r flat′ ends′
+    → w ≤ 16 → (w ≤ 16 → take w body ≡ numbers bytes 1 w) → RowTaken p st flat ends (take (w - 0) (drop 0 body)) short r flat′ ends′
     → RowTaken p st flat ends (numbers bytes 1 w) short r flat′ ends′
-row-read p st flat ends body bytes w short r flat′ ends′ e t =
-    subst (λ (q : Row). RowTaken p st flat ends q short r flat′ ends′) (ap (λ (k : ℕ). take k body) (sub-zero w) ∙ e) t
+row-read p st flat ends body bytes w short r flat′ ends′ h e t =
+    subst (λ (q : Row). RowTaken p st flat ends q short r flat′ ends′) (ap (λ (k : ℕ). take k body) (sub-zero w) ∙ e h) t
 
 ----------------------------------------------------------------------
 -- What the bytes are
 
 module _ (bytes : List ℕ) (s : Shape) (v : RecordAs bytes s) where
-  pub at-size : s ≡ Size → (recordOf bytes ≡ size (number bytes 1) (number bytes 3) (number bytes 5)) × (length bytes ≡ 7)
+  pub at-size : s ≡ Size → recordOf bytes ≡ size (number bytes 1) (number bytes 3) (number bytes 5)
   unfolding RecordAs
   at-size e = subst (RecordAs bytes) e v
 
-  pub at-row : (x : Bool) (w : ℕ) → s ≡ Shape.Row x w → (recordOf bytes ≡ row (pauli x) (numbers bytes 1 w)) × (length bytes ≡ 1 + 2 * w) × (w ≤ 16)
+  pub at-row : (x : Bool) (w : ℕ) → s ≡ Shape.Row x w → (recordOf bytes ≡ row (pauli x) (numbers bytes 1 w)) × (w ≤ 16)
   unfolding RecordAs
   at-row x w e = subst (RecordAs bytes) e v
 
-  pub at-lose : s ≡ Lose → (recordOf bytes ≡ add lost (number bytes 1)) × (length bytes ≡ 3)
+  pub at-lose : s ≡ Lose → recordOf bytes ≡ add lost (number bytes 1)
   unfolding RecordAs
   at-lose e = subst (RecordAs bytes) e v
 
-  pub at-light : (x : Bool) → s ≡ Light x → (recordOf bytes ≡ add (lit (pauli x)) (number bytes 1)) × (length bytes ≡ 3)
+  pub at-light : (x : Bool) → s ≡ Light x → recordOf bytes ≡ add (lit (pauli x)) (number bytes 1)
   unfolding RecordAs
   at-light x e = subst (RecordAs bytes) e v
 
@@ -65,11 +65,11 @@ module _ (bytes : List ℕ) (s : Shape) (v : RecordAs bytes s) where
   at-wrong e = subst (RecordAs bytes) e v
 
   -- A decode, or none.
-  pub at-decode : decode? s ≡ true → (recordOf bytes ≡ report (getD bytes 1 0) (number bytes 2)) × (length bytes ≡ 4)
+  pub at-decode : decode? s ≡ true → recordOf bytes ≡ report (getD bytes 1 0) (number bytes 2)
   unfolding RecordAs
   at-decode e = by s v e
     where
-      by : (t : Shape) → RecordAs bytes t → decode? t ≡ true → (recordOf bytes ≡ report (getD bytes 1 0) (number bytes 2)) × (length bytes ≡ 4)
+      by : (t : Shape) → RecordAs bytes t → decode? t ≡ true → recordOf bytes ≡ report (getD bytes 1 0) (number bytes 2)
       by Unknown u f = never f refl
       by Wrong u f = never f refl
       by Size u f = never f refl
@@ -85,10 +85,10 @@ module _ (bytes : List ℕ) (s : Shape) (v : RecordAs bytes s) where
       by : (t : Shape) → RecordAs bytes t → decode? t ≡ false → isReport (recordOf bytes) ≡ false
       by Unknown u f = rw u
       by Wrong u f = rw u
-      by Size u f = rw (u .0)
+      by Size u f = rw u
       by (Shape.Row x w) u f = rw (u .0)
-      by Lose u f = rw (u .0)
-      by (Light x) u f = rw (u .0)
+      by Lose u f = rw u
+      by (Light x) u f = rw u
       by Decode u f = never refl f
 
   ----------------------------------------------------------------------
@@ -124,7 +124,7 @@ module _ (bytes : List ℕ) (s : Shape) (v : RecordAs bytes s) where
     pub take-size : s ≡ Size → (n x z : ℕ) → n ≡ number bytes 1 → x ≡ number bytes 3 → z ≡ number bytes 5
         → ((l : Lists) (six : ℕ → Bool) → Does short six (size n x z) st l l r) → Takes short bytes st l l r
     take-size e n x z i j k d =
-        let w : recordOf bytes ≡ size n x z = at-size e .0 ∙ λ t. size (sym i t) (sym j t) (sym k t) in
+        let w : recordOf bytes ≡ size n x z = at-size e ∙ λ t. size (sym i t) (sym j t) (sym k t) in
         record { keeps = record { flat = refl; ends = refl; shot = refl; refused = λ m i. refl }; does = λ work six t. rw w (d l six) }
 
     pub take-row : (x : Bool) (w : ℕ) → s ≡ Shape.Row x w → (flat′ ends′ : List ℕ) → RowTaken (pauli x) st flat ends (numbers bytes 1 w) short r flat′ ends′
@@ -138,7 +138,7 @@ module _ (bytes : List ℕ) (s : Shape) (v : RecordAs bytes s) where
             shot = refl;
             refused = λ m i. let o = d .refused m i in ap₂ (λ (f g : List ℕ). held f g shot) (o .0) (o .1);
           };
-          does = λ work six t. rw (z .0) (d .does six shot (rw (numbers-length bytes 1 w) (z .2))
+          does = λ work six t. rw (z .0) (d .does six shot (rw (numbers-length bytes 1 w) (z .1))
               (λ k. let o = long-lists l work (sym t ∙ k) in (o .flat, o .ends)));
         }
 
@@ -150,11 +150,11 @@ module _ (bytes : List ℕ) (s : Shape) (v : RecordAs bytes s) where
         }
 
     pub take-lose : s ≡ Lose → (q : ℕ) → q ≡ number bytes 1 → (shot′ : List ℕ) → Adds short lost q st shot shot′ r → Takes short bytes st l (held flat ends shot′) r
-    take-lose e q i = adds lost q (at-lose e .0 ∙ ap (add lost) (sym i))
+    take-lose e q i = adds lost q (at-lose e ∙ ap (add lost) (sym i))
 
     pub take-light : (x : Bool) → s ≡ Light x → (k : ℕ) → k ≡ number bytes 1 → (shot′ : List ℕ) → Adds short (lit (pauli x)) k st shot shot′ r
         → Takes short bytes st l (held flat ends shot′) r
-    take-light x e k i = adds (lit (pauli x)) k (at-light x e .0 ∙ ap (add (lit (pauli x))) (sym i))
+    take-light x e k i = adds (lit (pauli x)) k (at-light x e ∙ ap (add (lit (pauli x))) (sym i))
 
   ----------------------------------------------------------------------
   -- The promise
@@ -168,4 +168,4 @@ module _ (bytes : List ℕ) (s : Shape) (v : RecordAs bytes s) where
   pub step-decode : decode? s ≡ true → (st : State) (budget limit : ℕ) → budget ≡ getD bytes 1 0 → limit ≡ number bytes 2 → (old new : Lent) (r : Reply)
       → Promised (report budget limit) st old new r → Promise st bytes old new r
   step-decode e st budget limit i j old new r d =
-      subst (λ (w : Record). Promised w st old new r) (sym (at-decode e .0 ∙ ap₂ report (sym i) (sym j))) d
+      subst (λ (w : Record). Promised w st old new r) (sym (at-decode e ∙ ap₂ report (sym i) (sym j))) d

@@ -1,23 +1,10 @@
 // The stream of records: one call for each record, from a fresh start.
-mod bytes;
-mod shapes;
 mod take;
 
 ghost use Rattle.records.specs.Lists.{held, sixOf, lentOf};
 ghost use Rattle.records.specs.Promise.{Promise};
 use records::Reply;
 use records::State;
-
-// What a record's bytes are: of no kind, not of its length, or of a kind; rows with whether they are X rows and their number of qubits.
-enum Shape {
-    Unknown,
-    Wrong,
-    Size,
-    Row(bool, u8),
-    Lose,
-    Light(bool),
-    Decode,
-}
 
 // One record: the state and the lists of code and shot go in as the last call left them, with a work list and the six lists of a decode.
 pub fn step(
@@ -36,12 +23,12 @@ pub fn step(
 ) -> Reply
     ensures { λ r. ⌜ Promise st (now (bytes .entry)) (lentOf (held (now (flat .entry)) (now (ends .entry)) (now (shot .entry))) (now (work .entry)) (sixOf (now («x_marks» .entry)) (now («x_forms» .entry)) (now («x_correction» .entry)) (now («z_marks» .entry)) (now («z_forms» .entry)) (now («z_correction» .entry)))) (lentOf (held (now (flat .exit)) (now (ends .exit)) (now (shot .exit))) (now (work .exit)) (sixOf (now («x_marks» .exit)) (now («x_forms» .exit)) (now («x_correction» .exit)) (now («z_marks» .exit)) (now («z_forms» .exit)) (now («z_correction» .exit)))) r ⌝ }
 {
-    let shape = shapes::shape_of(bytes);
-    if shapes::is_decode(shape) {
+    let shape = reading::shape_of(bytes);
+    if reading::is_decode(shape) {
         return decoding::decode(
             st,
-            bytes[1],
-            bytes::number(bytes, 2),
+            reading::byte_at(bytes, 1),
+            reading::number(bytes, 2),
             flat,
             ends,
             shot,

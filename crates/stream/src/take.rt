@@ -1,22 +1,21 @@
 // The records that load a code, and those of a shot.
 ghost use mathlib.Core.Path.{_≡_};
 ghost use mathlib.Core.Bool.{false};
-ghost use Prim.Native.Nat.{_+_, _*_, _≤_};
-ghost use lib.ListN.{length};
+ghost use Prim.Native.Nat.{_≤_};
 ghost use Rattle.records.specs.Records.{pauli, numbers};
 ghost use Rattle.records.specs.Lists.{held};
 ghost use Rattle.loading.specs.Loading.{RowTaken};
-ghost use Rattle.stream.specs.Shapes.{decode?, RecordAs};
+ghost use Rattle.reading.specs.Shapes.{decode?, RecordAs};
 ghost use Rattle.stream.specs.Takes.{Takes};
-use crate::Shape;
-use crate::bytes::number;
-use crate::bytes::qubits_of;
 use code::Qubit;
 use code::Row;
+use reading::Shape;
+use reading::number;
+use reading::qubits_of;
 use records::Refusal;
 use records::Reply;
 use records::State;
-use rules::refused;
+use states::refused;
 
 // A row as it stands in a record's bytes.
 fn read_row(
@@ -28,7 +27,7 @@ fn read_row(
     w: usize,
     short: bool,
 ) -> Reply
-    requires { ⌜ (w ≤ 16) × (1 + 2 * w ≤ length (now bytes)) ⌝ }
+    requires { ⌜ w ≤ 16 ⌝ }
     ensures { λ r. ⌜ RowTaken (pauli xrow) st (now (flat .entry)) (now (ends .entry)) (numbers (now (bytes .entry)) 1 w) short r (now (flat .exit)) (now (ends .exit)) ⌝ }
 {
     let body = qubits_of(bytes, w);

@@ -1,7 +1,6 @@
 -- `stream::step` meets its contract: a decode, or any other record. Assumes nothing.
-use mathlib.Core.Path.{refl, sym, _∙_}
-use native.Mathlib.Omega.{arith}
-use Rattle.stream.proofs.Taking.{at-decode, step-decode, step-other}
+use mathlib.Core.Path.{sym, _∙_}
+use Rattle.stream.proofs.Taking.{step-decode, step-other}
 use borrow.Author.Needs.{needs}
 use Rattle.stream.proofs.step.Statement.{statement}
 use Rattle.stream.proofs.step.Tie as tie
@@ -12,11 +11,11 @@ shape-of-requires c κs = search needs
 is-decode-requires : tie.Need-is-decode-requires
 is-decode-requires c κs = search needs
 
-shared-slice-read-decode : tie.Need-shared-slice-read-decode
-shared-slice-read-decode c = omega (arith, at-decode _ _ (c .before .before .before .shape-of .ensures) (sym (c .before .before .is-decode .ensures) ∙ c .before .if1 .taken) .1)
+byte-at-requires : tie.Need-byte-at-requires
+byte-at-requires c κs = search needs
 
 number-requires : tie.Need-number-requires
-number-requires c κs = omega (arith, at-decode _ _ (c .before .before .before .shape-of .ensures) (sym (c .before .before .is-decode .ensures) ∙ c .before .if1 .taken) .1)
+number-requires c κs = search needs
 
 decode-requires : tie.Need-decode-requires
 decode-requires c κs = search needs
@@ -54,7 +53,7 @@ same-length-10 c = search needs
 returns : tie.Need-returns
 returns c =
     let h = c .before .before .before .before .before .before .before .before .before .before .before .before .before .before .before .before .before .before .before .before .before .before .before .before .before .before .before in
-    step-decode _ _ (h .before .before .before .before .shape-of .ensures) (sym (h .before .before .before .is-decode .ensures) ∙ h .before .before .if1 .taken) _ _ _ refl (h .number .ensures) _ _ _ (c .before .before .before .before .before .before .before .before .before .before .before .before .before .before .before .before .decode .ensures)
+    step-decode _ _ (h .before .before .before .before .shape-of .ensures) (sym (h .before .before .before .is-decode .ensures) ∙ h .before .before .if1 .taken) _ _ _ (h .before .byte-at .ensures) (h .number .ensures) _ _ _ (c .before .before .before .before .before .before .before .before .before .before .before .before .before .before .before .before .decode .ensures)
 
 short-lists-requires : tie.Need-short-lists-requires
 short-lists-requires c κs = search needs
@@ -84,7 +83,7 @@ step-spec =
     (tie.spec
     shape-of-requires
     is-decode-requires
-    shared-slice-read-decode
+    byte-at-requires
     number-requires
     decode-requires
     same-length

@@ -1,6 +1,5 @@
 -- `stream::take::take` meets its contract, kind by kind. Assumes nothing.
-use native.Mathlib.Omega.{arith}
-use Rattle.stream.proofs.Taking.{at-size, at-row, at-lose, at-light, take-unknown, take-length, take-size, take-row, take-lose, take-light, take-no-decode}
+use Rattle.stream.proofs.Taking.{at-row, take-unknown, take-length, take-size, take-row, take-lose, take-light, take-no-decode}
 use borrow.Author.Needs.{needs}
 use Rattle.stream.proofs.take.take.Statement.{statement}
 use Rattle.stream.proofs.take.take.Tie as tie
@@ -21,13 +20,13 @@ enum-told-3 : tie.Need-enum-told-3
 enum-told-3 c = search needs
 
 number-requires : tie.Need-number-requires
-number-requires c κs = omega (arith, at-size _ _ (c .before .before .before .before .before .before .pre .0) (c .enum-told3 .given .1) .1)
+number-requires c κs = search needs
 
 number-requires-2 : tie.Need-number-requires-2
-number-requires-2 c κs = omega (arith, at-size _ _ (c .before .before .before .before .before .before .before .pre .0) (c .before .enum-told3 .given .1) .1)
+number-requires-2 c κs = search needs
 
 number-requires-3 : tie.Need-number-requires-3
-number-requires-3 c κs = omega (arith, at-size _ _ (c .before .before .before .before .before .before .before .before .pre .0) (c .before .before .enum-told3 .given .1) .1)
+number-requires-3 c κs = search needs
 
 take-sizes-requires : tie.Need-take-sizes-requires
 take-sizes-requires c κs = search needs
@@ -39,13 +38,13 @@ cast-read-row : tie.Need-cast-read-row
 cast-read-row c = search needs
 
 read-row-requires : tie.Need-read-row-requires
-read-row-requires c κs = let z = at-row _ _ (c .before .before .before .before .before .before .before .before .before .pre .0) _ _ (c .before .before .before .shape .given .1) in (z .2, omega (arith, z .1))
+read-row-requires c κs = let z = at-row _ _ (c .before .before .before .before .before .before .before .before .before .pre .0) _ _ (c .before .before .before .shape .given .1) in z .1
 
 enum-told-4 : tie.Need-enum-told-4
 enum-told-4 c = search needs
 
 number-requires-4 : tie.Need-number-requires-4
-number-requires-4 c κs = omega (arith, at-lose _ _ (c .before .before .before .before .before .before .pre .0) (c .enum-told4 .given .1) .1)
+number-requires-4 c κs = search needs
 
 lose-requires : tie.Need-lose-requires
 lose-requires c κs = search needs
@@ -54,7 +53,7 @@ enum-known-shape-2 : tie.Need-enum-known-shape-2
 enum-known-shape-2 c = search needs
 
 number-requires-5 : tie.Need-number-requires-5
-number-requires-5 c κs = omega (arith, at-light _ _ (c .before .before .before .before .before .before .before .pre .0) _ (c .before .shape2 .given .1) .1)
+number-requires-5 c κs = search needs
 
 light-requires : tie.Need-light-requires
 light-requires c κs = search needs

@@ -1,0 +1,59 @@
+-- `reading::shapes::named` meets its contract. Assumes nothing.
+use native.Mathlib.Omega.{arith}
+use Rattle.records.proofs.KindBytes.{kind-size, kind-lost, kind-lit-z, kind-lit-x, kind-decode, kind-low, kind-row-x, kind-mid, kind-row-z, kind-high}
+use borrow.Author.Needs.{needs}
+use Rattle.reading.proofs.shapes.named.Statement.{statement}
+use Rattle.reading.proofs.shapes.named.Tie as tie
+
+returns : tie.Need-returns
+returns c = (kind-size _ (c .if1 .taken), omega arith)
+
+returns-2 : tie.Need-returns-2
+returns-2 c = (kind-lost _ (c .if2 .taken), omega arith)
+
+returns-3 : tie.Need-returns-3
+returns-3 c = (kind-lit-z _ (c .if3 .taken), omega arith)
+
+returns-4 : tie.Need-returns-4
+returns-4 c = (kind-lit-x _ (c .if4 .taken), omega arith)
+
+returns-5 : tie.Need-returns-5
+returns-5 c = (kind-decode _ (c .if5 .taken), omega arith)
+
+returns-6 : tie.Need-returns-6
+returns-6 c = (kind-low _ (c .before .before .before .before .before .if1 .left) (c .before .before .before .before .if2 .left) (c .before .before .before .if3 .left) (c .before .before .if4 .left) (c .before .if5 .left) (omega arith), omega arith)
+
+sub-t3 : tie.Need-sub-t3
+sub-t3 c = search needs
+
+returns-7 : tie.Need-returns-7
+returns-7 c = (kind-row-x _ (c .before .before .before .before .before .before .if1 .left) (c .before .before .before .before .before .if2 .left) (c .before .before .before .before .if3 .left) (c .before .before .before .if4 .left) (c .before .before .if5 .left) (omega arith) (omega arith), omega arith)
+
+returns-8 : tie.Need-returns-8
+returns-8 c = (kind-mid _ (c .before .before .before .before .before .before .before .if1 .left) (c .before .before .before .before .before .before .if2 .left) (c .before .before .before .before .before .if3 .left) (c .before .before .before .before .if4 .left) (c .before .before .before .if5 .left) (omega arith) (omega arith), omega arith)
+
+sub-t4 : tie.Need-sub-t4
+sub-t4 c = search needs
+
+returns-9 : tie.Need-returns-9
+returns-9 c = (kind-row-z _ (c .before .before .before .before .before .before .before .before .if1 .left) (c .before .before .before .before .before .before .before .if2 .left) (c .before .before .before .before .before .before .if3 .left) (c .before .before .before .before .before .if4 .left) (c .before .before .before .before .if5 .left) (omega arith) (omega arith), omega arith)
+
+returns-10 : tie.Need-returns-10
+returns-10 c = (kind-high _ (c .before .before .before .before .before .before .before .before .if1 .left) (c .before .before .before .before .before .before .before .if2 .left) (c .before .before .before .before .before .before .if3 .left) (c .before .before .before .before .before .if4 .left) (c .before .before .before .before .if5 .left) (omega arith), omega arith)
+
+pub named-spec : {M : Type 1} → statement M
+named-spec =
+    tie.close
+    (tie.spec
+    returns
+    returns-2
+    returns-3
+    returns-4
+    returns-5
+    returns-6
+    sub-t3
+    returns-7
+    returns-8
+    sub-t4
+    returns-9
+    returns-10)

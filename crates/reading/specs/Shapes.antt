@@ -1,0 +1,60 @@
+-- What a record's bytes are, as the code tells it.
+--   kindAs      the kind that an answer means
+--   widthIn     how many qubits a row has
+--   unknown?    whether no kind was named; decode?: whether it is that of a decode
+--   RecordAs    the bytes are this record
+use mathlib.Core.Path.{_≡_}
+use mathlib.Core.Bool.{Bool, true, false}
+use mathlib.Core.Option.{Option, none, some}
+use mathlib.Core.List.{List}
+use Prim.Native.Nat.{ℕ, _≤_}
+use lib.ListN.{getD}
+use Rattle.reading.specs.declared.Shape.{Shape}
+use Rattle.reading.specs.declared.Shape.the-variants.{Unknown, Wrong, Size, Lose, Light, Decode}
+use Rattle.records.specs.Records.{pauli, lost, lit, Kind, sizes, decode, rowOf, member, unknown, wrong, size, row, add, report, number, numbers, recordOf}
+
+abbrev pub kindAs : Shape → Option Kind
+kindAs Unknown = none
+kindAs Wrong = none
+kindAs Size = some sizes
+kindAs (Shape.Row x w) = some (rowOf (pauli x) w)
+kindAs Lose = some (member lost)
+kindAs (Light x) = some (member (lit (pauli x)))
+kindAs Decode = some decode
+
+-- How many qubits a row has.
+abbrev pub widthIn : Shape → ℕ
+widthIn Unknown = 0
+widthIn Wrong = 0
+widthIn Size = 0
+widthIn (Shape.Row x w) = w
+widthIn Lose = 0
+widthIn (Light x) = 0
+widthIn Decode = 0
+
+abbrev pub unknown? : Shape → Bool
+unknown? Unknown = true
+unknown? Wrong = true
+unknown? Size = false
+unknown? (Shape.Row x w) = false
+unknown? Lose = false
+unknown? (Light x) = false
+unknown? Decode = false
+
+abbrev pub decode? : Shape → Bool
+decode? Unknown = false
+decode? Wrong = false
+decode? Size = false
+decode? (Shape.Row x w) = false
+decode? Lose = false
+decode? (Light x) = false
+decode? Decode = true
+
+unfoldable pub RecordAs : List ℕ → Shape → Type 0
+RecordAs bytes Unknown = recordOf bytes ≡ unknown
+RecordAs bytes Wrong = recordOf bytes ≡ wrong
+RecordAs bytes Size = recordOf bytes ≡ size (number bytes 1) (number bytes 3) (number bytes 5)
+RecordAs bytes (Shape.Row x w) = (recordOf bytes ≡ row (pauli x) (numbers bytes 1 w)) × (w ≤ 16)
+RecordAs bytes Lose = recordOf bytes ≡ add lost (number bytes 1)
+RecordAs bytes (Light x) = recordOf bytes ≡ add (lit (pauli x)) (number bytes 1)
+RecordAs bytes Decode = recordOf bytes ≡ report (getD bytes 1 0) (number bytes 2)
