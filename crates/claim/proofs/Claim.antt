@@ -10,7 +10,7 @@ use Rattle.binary.specs.Meaning.{Qubits}
 use Rattle.binary.proofs.Bits.{never, and-out}
 use Rattle.binary.proofs.Tests.{commute-test}
 use Rattle.code.proofs.Order.{rows-below}
-use Rattle.code.proofs.Sharing.{commute-symmetric}
+use Rattle.commuting.proofs.Sharing.{commute-symmetric}
 use Rattle.machine.specs.declared.HalfReport.{HalfReport}
 use Rattle.machine.specs.Machine.{Half}
 use Rattle.machine.specs.Report.{Shown, outcome}

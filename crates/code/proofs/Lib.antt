@@ -3,4 +3,3 @@ pub mod Turns
 pub mod Flat
 pub mod Push
 pub mod Order
-pub mod Sharing

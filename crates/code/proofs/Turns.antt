@@ -1,6 +1,6 @@
 -- The turns of the loops: what is left of a list decides. Assumes nothing.
 use mathlib.Core.Path.{_≡_, sym, ap, _∙_}
-use mathlib.Core.Bool.{Bool, true, false, not, _&&_, _||_}
+use mathlib.Core.Bool.{true, false, _&&_, _||_}
 use mathlib.Core.List.{List, _∷_}
 use Prim.Native.Nat.{ℕ, suc, _+_, _<_, _≤_}
 use native.Mathlib.Numerals.{add-one}
@@ -8,15 +8,12 @@ use borrow.Author.Tests.{lt-ltb, le-ltb, le-leb, lt-leb, eq-eqb, ne-eqb}
 use lib.Dec.{leb, ltb, eqb}
 use lib.ListN.{length, getD, drop, drop-of-length-le}
 use lib.Seq.{drop-cons}
-use Rattle.binary.specs.Bits.{_⊕_}
-use Rattle.binary.specs.Meaning.{Row, has, odd}
-use Rattle.binary.proofs.Bits.{⊕-false, ⊕-assoc, &&-false}
-use Rattle.code.specs.Lists.{rowAt, rowsBetween}
-use Rattle.code.specs.Tests.{ascendingFrom, ascending?, evenWith?}
-use Rattle.code.proofs.Lists.{between-turn, between-none}
+use Rattle.binary.specs.Meaning.{Row, has}
+use Rattle.binary.proofs.Bits.{&&-false}
+use Rattle.code.specs.Tests.{ascendingFrom, ascending?}
 
 -- What is left of a list, taken apart.
-drop-turn : (l : List ℕ) (i : ℕ) → i < length l → drop i l ≡ getD l i 0 ∷ drop (i + 1) l
+pub drop-turn : (l : List ℕ) (i : ℕ) → i < length l → drop i l ≡ getD l i 0 ∷ drop (i + 1) l
 drop-turn l i h = rw (add-one, drop-cons l i 0)
 
 ----------------------------------------------------------------------
@@ -42,7 +39,7 @@ module _ (n least i : ℕ) (row : Row) (left : ascendingFrom least n (drop i row
     ascending-turn l m = rw (← ascending-next, add-one q, le-leb least q l, lt-ltb q n m)
 
 ----------------------------------------------------------------------
--- Sharing
+-- Having a qubit
 
 module _ (row : Row) (q i : ℕ) (left : has (drop i row) q ≡ has row q) where
   pub has-end : length row ≤ i → false ≡ has row q
@@ -57,27 +54,3 @@ module _ (row : Row) (q i : ℕ) (left : has (drop i row) q ≡ has row q) where
 
     pub has-turn : (getD row i 0 ≡ q → ⊥) → has (drop (i + 1) row) q ≡ has row q
     has-turn e = rw (← has-next, ne-eqb (getD row i 0) q e)
-
-module _ (a b : Row) (i : ℕ) (sum : Bool) (left : sum ⊕ odd (has a) (drop i b) ≡ odd (has a) b) where
-  pub odd-end : length b ≤ i → sum ≡ odd (has a) b
-  odd-end h = sym (⊕-false sum) ∙ sym (ap (λ (l : Row). sum ⊕ odd (has a) l) (drop-of-length-le b h)) ∙ left
-
-  pub odd-turn : (more sum′ : Bool) → i < length b → more ≡ has a (getD b i 0) → sum′ ≡ sum ⊕ more → sum′ ⊕ odd (has a) (drop (i + 1) b) ≡ odd (has a) b
-  odd-turn more sum′ h m s =
-      rw (s, m) (⊕-assoc sum (has a (getD b i 0)) (odd (has a) (drop (i + 1) b)) ∙ sym (ap (λ (l : Row). sum ⊕ odd (has a) l) (drop-turn b i h)) ∙ left)
-
-module _ (flat ends : List ℕ) (from to r : ℕ) (row : Row) (left : evenWith? (rowsBetween flat ends r to) row ≡ evenWith? (rowsBetween flat ends from to) row) where
-  pub even-end : to ≤ r → true ≡ evenWith? (rowsBetween flat ends from to) row
-  unfolding evenWith?
-  even-end h = sym (ap (λ (rows : List Row). evenWith? rows row) (between-none flat ends r to h)) ∙ left
-
-  module _ (part : Row) (is : part ≡ rowAt flat ends r) (h : r < to) (told : Bool) (tells : told ≡ odd (has part) row) where
-    even-next : (not told && evenWith? (rowsBetween flat ends (r + 1) to) row) ≡ evenWith? (rowsBetween flat ends from to) row
-    unfolding evenWith?
-    even-next = rw (tells, is) (sym (ap (λ (rows : List Row). evenWith? rows row) (between-turn flat ends r to h)) ∙ left)
-
-    pub even-odd : told ≡ true → false ≡ evenWith? (rowsBetween flat ends from to) row
-    even-odd o = rw (← even-next, o)
-
-    pub even-turn : told ≡ false → evenWith? (rowsBetween flat ends (r + 1) to) row ≡ evenWith? (rowsBetween flat ends from to) row
-    even-turn o = rw (← even-next, o)

@@ -1,12 +1,11 @@
-// The code: its rows in lent lists, end to end, and the tests of rows.
+// The code: its rows in lent lists, end to end, and the tests of one row.
 ghost use mathlib.Core.Path.{_≡_};
 ghost use Prim.Native.Nat.{_+_, _<_, _≤_};
 ghost use lib.ListN.{length, getD};
-ghost use Rattle.binary.specs.Bits.{_⊕_};
-ghost use Rattle.binary.specs.Meaning.{has, odd};
-ghost use Rattle.code.specs.Lists.{startOf, rowAt, rowsBetween};
+ghost use Rattle.binary.specs.Meaning.{has};
+ghost use Rattle.code.specs.Lists.{startOf, rowAt};
 ghost use Rattle.code.specs.Push.{written, Pushed};
-ghost use Rattle.code.specs.Tests.{ascending?, evenWith?};
+ghost use Rattle.code.specs.Tests.{ascending?};
 
 // A qubit's number.
 pub struct Qubit(pub u16);
@@ -123,43 +122,4 @@ pub fn contains(row: &[u16], q: Qubit) -> bool
         i += 1;
     }
     false
-}
-
-// The sum of two bits, modulo 2.
-fn sum(a: bool, b: bool) -> bool
-    ensures { λ r. ⌜ r ≡ a ⊕ b ⌝ }
-{
-    if a {
-        return !b;
-    }
-    b
-}
-
-// Whether two rows share an odd number of qubits.
-pub fn share_odd(a: &[u16], b: &[u16]) -> bool
-    ensures { λ r. ⌜ r ≡ odd (has (now (a .entry))) (now (b .entry)) ⌝ }
-{
-    let mut odd = false;
-    let mut i: usize = 0;
-    while i < b.len() {
-        odd = sum(odd, contains(a, Qubit(b[i])));
-        i += 1;
-    }
-    odd
-}
-
-// Whether the qubits share an even number with each of the rows from `from` up to `to`.
-pub fn even_with(flat: &[u16], ends: &[u16], from: Row, to: Row, qubits: &[u16]) -> bool
-    ensures { λ r. ⌜ r ≡ evenWith? (rowsBetween (now (flat .entry)) (now (ends .entry)) (from .0) (to .0)) (now (qubits .entry)) ⌝ }
-{
-    let stop = to.0;
-    let mut r = from.0;
-    while r < stop {
-        let row = row_at(flat, ends, Row(r));
-        if share_odd(row, qubits) {
-            return false;
-        }
-        r += 1;
-    }
-    true
 }

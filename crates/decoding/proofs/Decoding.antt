@@ -29,9 +29,10 @@ use Rattle.records.proofs.Answers.{unchanged, carried}
 use Rattle.records.proofs.Range.{InRange, range-out, LongLists, long-lists, LongHalf, long-half}
 use Rattle.readout.specs.Readout.{Begun}
 use Rattle.readout.proofs.Shots.{left-begun, holds-opened}
-use Rattle.decoding.specs.declared.Test.{Test}
-use Rattle.decoding.specs.declared.Test.the-variants.{Passed, Failed}
-use Rattle.decoding.specs.Decoding.{givenOf, shownOf, lacking?, testOf, BothFit, GoodRows, Reports}
+use Rattle.decodable.specs.declared.Test.{Test}
+use Rattle.decodable.specs.declared.Test.the-variants.{Passed, Failed}
+use Rattle.decodable.specs.Tests.{lacking?, testOf}
+use Rattle.decoding.specs.Decoding.{givenOf, shownOf, BothFit, GoodRows, Reports}
 use Rattle.decoding.proofs.Halves.{both-fit, shown-held, good-rows}
 
 ----------------------------------------------------------------------

@@ -1,15 +1,12 @@
 -- What a decode does, beside the promise of its record.
 --   readingsOf  the part of the shot's list that has the rows' elements
 --   givenOf     what a half is decoded from: X errors from the Z rows, Z errors from the X rows
---   lacking?    whether a list is short, or, in an altered state, the sizes are out of range
---   testOf      the refusal that a decode meets, by the tests in the table's order
 --   BothFit     both halves are decoded
 --   Reports     what the decode of both halves does
 use mathlib.Core.Path.{_≡_}
-use mathlib.Core.Bool.{Bool, true, not, _||_, cond}
+use mathlib.Core.Bool.{true}
 use mathlib.Core.List.{List}
 use Prim.Native.Nat.{ℕ}
-use lib.Dec.{ltb}
 use lib.ListN.{length, drop}
 use Rattle.binary.specs.Meaning.{All}
 use Rattle.code.specs.Lists.{rowsFrom}
@@ -19,29 +16,9 @@ use Rattle.machine.specs.Lists.{HalfLists, Shows, SameLengths}
 use Rattle.halves.specs.Lists.{halfOf}
 use Rattle.halves.specs.Decode.{Given, fitting}
 use Rattle.records.specs.declared.Sizes.{Sizes}
-use Rattle.records.specs.declared.State.{State}
-use Rattle.records.specs.declared.Refusal.the-variants.{Codeless, Budget, Spoiled, Short}
 use Rattle.records.specs.declared.Report.{Report}
 use Rattle.records.specs.Records.{Pauli, X, Z}
-use Rattle.records.specs.Table.{inRange}
-use Rattle.records.specs.Lists.{Lists, Six, Lent, shortLists, shortSix}
-use Rattle.records.specs.States.{withoutCode, saying}
-use Rattle.decoding.specs.declared.Test.{Test}
-use Rattle.decoding.specs.declared.Test.the-variants.{Passed, Failed}
-
-----------------------------------------------------------------------
--- The tests
-
-unfoldable pub lacking? : Sizes → Lent → Bool
-lacking? z l = shortLists (l .lists) (length (l .work)) || shortSix (l .six) (z .n) || not (inRange (z .n) (z .x) (z .z))
-
-unfoldable pub testOf : ℕ → State → Bool → Test
-testOf budget st lacking =
-    cond (withoutCode (st .phase)) (Failed (saying Codeless true st))
-    (cond (ltb 63 budget) (Failed (saying Budget true st))
-    (cond (st .spoiled) (Failed (saying Spoiled true st))
-    (cond lacking (Failed (saying Short true st))
-    Passed)))
+use Rattle.records.specs.Lists.{Lists, Six}
 
 ----------------------------------------------------------------------
 -- Both halves

@@ -3,83 +3,28 @@ ghost use mathlib.Core.Path.{_≡_};
 ghost use Prim.Native.Nat.{_≤_};
 ghost use lib.ListN.{length};
 ghost use Rattle.records.specs.Records.{report};
-ghost use Rattle.records.specs.Lists.{held, sixOf, lentOf, shortHalf};
+ghost use Rattle.records.specs.Lists.{held, sixOf, lentOf};
 ghost use Rattle.records.specs.Promise.{Promised};
-ghost use Rattle.decoding.specs.Decoding.{lacking?, testOf, readingsOf, BothFit, Reports};
+ghost use Rattle.decoding.specs.Decoding.{readingsOf, BothFit, Reports};
 use code::Row;
+use decodable::Test;
+use decodable::lacking;
+use decodable::tested;
 use halves::HalfAnswer;
 use halves::decode_half;
 use machine::HalfReport;
 use machine::Word;
 use readout::begin;
 use records::Answer;
-use records::Refusal;
 use records::Reply;
 use records::Report;
 use records::Sizes;
 use records::State;
 use rules::codeless;
-use states::ended;
 use rules::in_range;
-use states::refused;
 use rules::short_lists;
-
-// Whether a decode is refused.
-enum Test {
-    Passed,
-    Failed(Reply),
-}
-
-// Whether one of the three lists of a half has fewer than n elements.
-fn short_half(n: usize, marks: &[u8], forms: &[u64], correction: &[u8]) -> bool
-    ensures { λ r. ⌜ r ≡ shortHalf (record { marks = now (marks .entry); forms = now (forms .entry); correction = now (correction .entry) }) n ⌝ }
-{
-    (marks.len() < n) | (forms.len() < n) | (correction.len() < n)
-}
-
-// Whether a list is short. Sizes that are out of range stand in an altered state only.
-fn lacking(
-    sizes: Sizes,
-    flat: &[u16],
-    ends: &[u16],
-    shot: &[u8],
-    work: &[u64],
-    x_marks: &[u8],
-    x_forms: &[u64],
-    x_correction: &[u8],
-    z_marks: &[u8],
-    z_forms: &[u64],
-    z_correction: &[u8],
-) -> bool
-    ensures { λ r. ⌜ r ≡ lacking? sizes (lentOf (held (now (flat .entry)) (now (ends .entry)) (now (shot .entry))) (now (work .entry)) (sixOf (now («x_marks» .entry)) (now («x_forms» .entry)) (now («x_correction» .entry)) (now («z_marks» .entry)) (now («z_forms» .entry)) (now («z_correction» .entry)))) ⌝ }
-{
-    let n = sizes.n as usize;
-    let lists = short_lists(flat, ends, shot, work);
-    let x = short_half(n, x_marks, x_forms, x_correction);
-    let z = short_half(n, z_marks, z_forms, z_correction);
-    let small = in_range(sizes.n, sizes.x, sizes.z);
-    lists | (x | z) | !small
-}
-
-// The tests in the table's order.
-fn tested(budget: u8, st: State, lacking: bool) -> Test
-    ensures { λ r. ⌜ r ≡ testOf budget st lacking ⌝ }
-{
-    if codeless(st) {
-        return Test::Failed(refused(st, Refusal::Codeless, true));
-    }
-    if 63 < budget {
-        return Test::Failed(refused(st, Refusal::Budget, true));
-    }
-    let spoiled = st.spoiled;
-    if spoiled {
-        return Test::Failed(refused(st, Refusal::Spoiled, true));
-    }
-    if lacking {
-        return Test::Failed(refused(st, Refusal::Short, true));
-    }
-    Test::Passed
-}
+use states::ended;
+use states::refused;
 
 // The part of the shot's list that has the rows' elements.
 fn readings<'a>(shot: &'a [u8]) -> &'a [u8]

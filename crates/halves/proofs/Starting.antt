@@ -11,12 +11,13 @@ use lib.ListN.{length}
 use borrow.Author.Tests.{lt-ltb, le-ltb, le-leb}
 use Rattle.binary.specs.Meaning.{Row, All, fixed?}
 use Rattle.binary.specs.Words.{listed}
-use Rattle.search.specs.Packed.{wordsFor, room, Packed, Put, Marked, enough}
+use Rattle.packing.specs.Packed.{wordsFor, room, Packed, Put}
+use Rattle.search.specs.Marked.{Marked, enough}
 use Rattle.binary.proofs.Bits.{never}
 use Rattle.binary.proofs.Elimination.{fixed-lost}
 use Rattle.binary.proofs.WordBits.{order}
-use Rattle.search.proofs.Words.{few-words}
-use Rattle.search.proofs.Put.{packed-more}
+use Rattle.packing.proofs.Rows.{few-words}
+use Rattle.packing.proofs.Put.{packed-more}
 use Rattle.code.specs.Lists.{rowAt, rowsFrom}
 use Rattle.code.specs.Tests.{Ascending}
 use Rattle.code.proofs.Order.{rows-below}

@@ -13,7 +13,7 @@ use lib.Dec.{leb}
 use lib.ListN.{length, getD}
 use Rattle.binary.specs.Meaning.{All, fixed?}
 use Rattle.binary.specs.Words.{listed}
-use Rattle.search.specs.Packed.{wordsFor, Packed}
+use Rattle.packing.specs.Packed.{wordsFor, Packed}
 use Rattle.code.specs.Lists.{rowsFrom}
 use Rattle.code.specs.Tests.{Ascending}
 use Rattle.machine.specs.declared.Word.{Word}

@@ -22,11 +22,11 @@ fn pack_rows(n: u16, flat: &[u16], ends: &[u16], other: u16, others: u16, work: 
     requires { ⌜ (n ≤ 1024) × (others ≤ 512) × (other ≤ 512) × (8192 ≤ length (now work)) ⌝ }
     ensures { λ _. ⌜ PackedFrom n (now (flat .entry)) (now (ends .entry)) other others (now (work .entry)) (now (work .exit)) ⌝ }
 {
-    let words = search::words_for(n);
+    let words = packing::words_for(n);
     let mut i: u16 = 0;
     while i < others {
         let row = code::row_at(flat, ends, Row(other + i));
-        search::put_row(work, words, index(i), row);
+        packing::put_row(work, words, index(i), row);
         i += 1;
     }
 }

@@ -15,10 +15,11 @@ use Rattle.binary.specs.Meaning.{Row, All, commute?}
 use Rattle.binary.proofs.Bits.{bit, and-out}
 use Rattle.code.specs.Lists.{rowsBetween, Flat}
 use Rattle.code.specs.Push.{room?, Pushed}
-use Rattle.code.specs.Tests.{Ascending, evenWith?}
+use Rattle.code.specs.Tests.{Ascending}
+use Rattle.commuting.specs.Even.{evenWith?}
 use Rattle.code.proofs.Flat.{flat-none}
 use Rattle.code.proofs.Push.{flat-push, flat-room}
-use Rattle.code.proofs.Sharing.{commute-told}
+use Rattle.commuting.proofs.Sharing.{commute-told}
 use Rattle.records.specs.declared.Sizes.{Sizes}
 use Rattle.records.specs.declared.Phase.the-variants.{Loading, Ready}
 use Rattle.records.specs.declared.State.{State}

@@ -11,7 +11,7 @@ use lib.Dec.{leb, ltb}
 use lib.ListN.{length}
 use Rattle.binary.specs.Meaning.{Row}
 use Rattle.code.specs.Lists.{rowsBetween}
-use Rattle.code.specs.Tests.{evenWith?}
+use Rattle.commuting.specs.Even.{evenWith?}
 use Rattle.records.specs.declared.Phase.{Phase}
 use Rattle.records.specs.declared.Phase.the-variants.{Empty, Loading, Ready}
 use Rattle.records.specs.declared.Sizes.{Sizes}

@@ -101,7 +101,7 @@ fn clashes(st: State, xrow: bool, flat: &[u16], ends: &[u16], qubits: &[u16]) ->
         return true;
     }
     let sizes = st.sizes;
-    !code::even_with(flat, ends, Row(0), Row(sizes.x), qubits)
+    !commuting::even_with(flat, ends, Row(0), Row(sizes.x), qubits)
 }
 
 // Whether both hold.

@@ -11,11 +11,12 @@ use borrow.Author.Tests.{eq-eqb, ne-eqb, lt-ltb, ltb-true}
 use lib.Dec.{eqb, ltb}
 use Rattle.binary.specs.Bits.{_⊕_}
 use Rattle.binary.specs.Meaning.{Qubits}
-use Rattle.search.specs.Packed.{cell}
+use Rattle.packing.specs.Packed.{cell}
 use Rattle.search.specs.Search.{joinedBy, Run, First, Later, former, Column, Clears, LeftAt}
 use Rattle.binary.proofs.Bits.{⊕-false, &&-false, never, bit}
 use Rattle.binary.proofs.Elimination.{Cleared}
-use Rattle.search.proofs.Words.{other-cells, run-cells}
+use Rattle.packing.proofs.Rows.{other-cells}
+use Rattle.search.proofs.Words.{run-cells}
 use Rattle.binary.proofs.WordBits.{order, bit-xor}
 
 ----------------------------------------------------------------------

@@ -1,5 +1,4 @@
 pub mod Words
-pub mod Put
 pub mod Columns
 pub mod Search
 pub mod Passes

@@ -11,7 +11,8 @@ use lib.ListN.{length, getD, set}
 use lib.Seq.{getD-set-same, getD-set-other}
 use Rattle.binary.specs.Meaning.{Row, Below, fixed?}
 use Rattle.binary.specs.Words.{listed}
-use Rattle.search.specs.Packed.{wordsFor, Packed, enough, Marked}
+use Rattle.packing.specs.Packed.{wordsFor, Packed}
+use Rattle.search.specs.Marked.{enough, Marked}
 use Rattle.search.specs.Search.{Clears, LeftAt, Taken, Search, Goes}
 use Rattle.binary.proofs.Bits.{never, and-out, beq-out, beq-in, &&-false}
 use Rattle.search.proofs.Search.{left-packed, left-columns, left-turned, search-past, search-blank, search-cleared, search-idle}
@@ -127,7 +128,7 @@ module _ (n w rows : ℕ) (lost : List ℕ) (pass : Bool) (q top : ℕ) (m marks
 pub not-marked : (n rows : ℕ) (lost work marks : List ℕ) (r : Bool) → r ≡ enough n rows lost work marks → not r ≡ true
     → Marked n rows lost work marks work marks false
 not-marked n rows lost work marks r e f =
-    record { answer = sym (not-true r f) ∙ e; work-size = refl; size = refl; marked = λ t. never t refl; rest = λ k h. refl; refused = λ _. refl }
+    record { answer = sym (not-true r f) ∙ e; work-size = refl; size = refl; marked = λ t. never t refl; rest = λ k h. refl; refused = λ _. (refl, refl) }
 
 -- The pass over the columns that are not lost, then the one over the lost columns.
 pub all-marked : (n w rows : ℕ) (lost work marks : List ℕ) (top : ℕ) (work′ marks′ : List ℕ) (top′ : ℕ) (work″ marks″ : List ℕ)

@@ -9,7 +9,7 @@ use native.Mathlib.Omega.{arith}
 use borrow.Author.Tests.{lt-ltb, le-ltb}
 use lib.ListN.{length, getD}
 use Rattle.binary.specs.Meaning.{Qubits, Row, Below, All, has, IsProduct, fixed?}
-use Rattle.search.specs.Packed.{Packed}
+use Rattle.packing.specs.Packed.{Packed}
 use Rattle.binary.specs.Elimination.{Left}
 use Rattle.search.specs.Search.{Clears, LeftAt, Taken, Search}
 use Rattle.binary.proofs.Bits.{bit, never, beq-out, beq-in}

@@ -1,10 +1,8 @@
 -- What the private functions ask, and what they do: to words, to rows, to the rows left of an elimination.
---   RowIn          row i lies in the work list
 --   ColumnIn       column q, and the rows from top on, lie in the work list
 --   ColumnsIn      n columns, and the rows from top on, lie in the lists
 --   joinedBy       the sum of two words, or the second
 --   Run            each of n words becomes f of itself and its word of another run
---   BitsSet        the bits of a set are set in row i
 --   First          the first row from top on with column q
 --   Later          row i is added to each later row that has column q
 --   former         the place that the row at j had before row i left
@@ -16,7 +14,7 @@
 --   Search         a pass has come to column q
 --   Goes           a pass goes from column q to column q′
 use mathlib.Core.Path.{_≡_}
-use mathlib.Core.Bool.{Bool, true, false, cond, _&&_, _||_}
+use mathlib.Core.Bool.{Bool, true, false, cond, _&&_}
 use mathlib.Core.Logic.{_⊎_}
 use mathlib.Core.List.{List}
 use Prim.Native.Nat.{ℕ, _+_, _*_, _≤_, _<_}
@@ -27,13 +25,10 @@ use Rattle.binary.specs.Bits.{_⊕_}
 use Rattle.binary.specs.Meaning.{Qubits, Row, Below, fixed?}
 use Rattle.binary.specs.Words.{listed}
 use Rattle.binary.specs.Elimination.{Left}
-use Rattle.search.specs.Packed.{cell}
+use Rattle.packing.specs.Packed.{cell}
 
 ----------------------------------------------------------------------
 -- What lies in the lists
-
-abbrev pub RowIn : ℕ → ℕ → List ℕ → Type 0
-RowIn w i m = i * w + w ≤ length m
 
 abbrev pub ColumnIn : ℕ → ℕ → ℕ → ℕ → List ℕ → Type 0
 ColumnIn w top rows q m = (q < 64 * w) × (top ≤ rows) × (rows * w ≤ length m)
@@ -52,11 +47,6 @@ joinedBy false = λ x y. y
 pub record Run (f : ℕ → ℕ → ℕ) (a b n : ℕ) (m m′ : List ℕ) : Type 0 where
   pub done : (j : ℕ) → j < n → getD m′ (b + j) 0 ≡ f (getD m (b + j) 0) (getD m (a + j) 0)
   pub kept : (k : ℕ) → (k < b) ⊎ (b + n ≤ k) → getD m′ k 0 ≡ getD m k 0
-
--- Columns past the row's words are passed over.
-pub record BitsSet (w i : ℕ) (s : Qubits) (m m′ : List ℕ) : Type 0 where
-  pub cells : (c : ℕ) → c < 64 * w → cell m′ w i c ≡ (cell m w i c || s c)
-  pub kept : (k : ℕ) → (k < i * w) ⊎ (i * w + w ≤ k) → getD m′ k 0 ≡ getD m k 0
 
 ----------------------------------------------------------------------
 -- Rows

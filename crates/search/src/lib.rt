@@ -1,27 +1,12 @@
-// Rows packed into the words of a lent list, and the search for the fixed qubits.
+// The search for the fixed qubits, in rows packed into the words of a lent list.
 ghost use mathlib.Core.Path.{_≡_};
 ghost use Prim.Native.Nat.{_+_, _*_, _<_};
-ghost use lib.Bits.{bitXor};
-ghost use lib.Dec.{eqb};
 ghost use lib.ListN.{getD};
-ghost use Rattle.binary.specs.Meaning.{has};
 ghost use Rattle.binary.specs.Words.{bit};
-ghost use Rattle.search.specs.Packed.{wordsFor, Put, enough, Marked};
-ghost use Rattle.search.specs.Search.{RowIn, ColumnIn, ColumnsIn, joinedBy, Run, BitsSet, First, Later, Clears, Goes};
-
-// A qubit as an index.
-fn index(x: u16) -> usize
-    ensures { λ r. ⌜ r ≡ x ⌝ }
-{
-    x as usize
-}
-
-// The words that a packed row of `n` columns takes.
-pub fn words_for(n: u16) -> usize
-    ensures { λ r. ⌜ r ≡ wordsFor n ⌝ }
-{
-    (n as usize + 63) / 64
-}
+ghost use Rattle.packing.specs.Packed.{wordsFor};
+ghost use Rattle.packing.specs.Packing.{RowIn};
+ghost use Rattle.search.specs.Marked.{enough, Marked};
+ghost use Rattle.search.specs.Search.{ColumnIn, ColumnsIn, joinedBy, Run, First, Later, Clears, Goes};
 
 // The sum of two words, or the second in the place of the first.
 fn joined(add: bool, old: u64, new: u64) -> u64
@@ -45,49 +30,6 @@ fn join_row(m: &mut [u64], w: usize, from: usize, to: usize, add: bool)
         m[b + k] = joined(add, m[b + k], m[a + k]);
         k += 1;
     }
-}
-
-// Bit `q` of row `i` is set, if the row has it.
-fn set_bit(m: &mut [u64], w: usize, i: usize, q: usize)
-    requires { ⌜ RowIn w i (now m) ⌝ }
-    ensures { λ _. ⌜ BitsSet w i (eqb q) (now (m .entry)) (now (m .exit)) ⌝ }
-{
-    let k = q / 64;
-    if w <= k {
-        return;
-    }
-    let at = i * w + k;
-    m[at] = m[at] | (1 << (q % 64));
-}
-
-// The bits of `row` are set in row `i`.
-fn set_bits(m: &mut [u64], w: usize, i: usize, row: &[u16])
-    requires { ⌜ RowIn w i (now m) ⌝ }
-    ensures { λ _. ⌜ BitsSet w i (has (now (row .entry))) (now (m .entry)) (now (m .exit)) ⌝ }
-{
-    let mut j = 0;
-    while j < row.len() {
-        set_bit(m, w, i, index(row[j]));
-        j += 1;
-    }
-}
-
-// Packs `row` at place `i`. Answers whether there is room; if not, nothing is written.
-pub fn put_row(work: &mut [u64], words: usize, i: usize, row: &[u16]) -> bool
-    ensures { λ r. ⌜ Put words i (now (row .entry)) (now (work .entry)) (now (work .exit)) r ⌝ }
-{
-    if words > 16 {
-        return false;
-    }
-    if i >= 512 {
-        return false;
-    }
-    if work.len() < (i + 1) * words {
-        return false;
-    }
-    join_row(work, words, i, i, true);
-    set_bits(work, words, i, row);
-    true
 }
 
 // Bit `b` of word `k` of row `i`.
@@ -226,7 +168,7 @@ pub fn mark_fixed(n: u16, rows: usize, lost: &[u8], work: &mut [u64], marks: &mu
     ensures { λ r. ⌜ Marked n rows (now (lost .entry)) (now (work .entry)) (now (marks .entry)) (now (work .exit)) (now (marks .exit)) r ⌝ }
 {
     let columns = n as usize;
-    let w = words_for(n);
+    let w = packing::words_for(n);
     if !long_enough(columns, rows, w, lost, work, marks) {
         return false;
     }

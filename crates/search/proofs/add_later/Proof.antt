@@ -4,9 +4,9 @@ use mathlib.Core.Logic.{⊎-elim}
 use Prim.Native.Nat.{_+_, _*_, _-_, _≤_, _<_}
 use native.Mathlib.Omega.{arith}
 use lib.ListN.{length}
-use Rattle.search.specs.Packed.{cell}
+use Rattle.packing.specs.Packed.{cell}
 use Rattle.search.specs.Search.{Later}
-use Rattle.search.proofs.Words.{apart}
+use Rattle.packing.proofs.Rows.{apart}
 use Rattle.search.proofs.Columns.{later-none, later-skipped, later-added}
 use Rattle.search.proofs.add_later.Statement.{statement}
 use Rattle.search.proofs.add_later.Tie as tie

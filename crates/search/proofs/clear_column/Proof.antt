@@ -1,6 +1,6 @@
 -- `search::clear_column` meets its contract. Assumes nothing.
 use native.Mathlib.Omega.{arith}
-use Rattle.search.proofs.Words.{apart}
+use Rattle.packing.proofs.Rows.{apart}
 use Rattle.search.proofs.Columns.{clears-none, clears-top, clears-moved}
 use borrow.Author.Needs.{needs}
 use Rattle.search.proofs.clear_column.Statement.{statement}

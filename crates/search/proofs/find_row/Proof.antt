@@ -3,8 +3,8 @@ use mathlib.Core.Path.{_≡_, sym, _∙_}
 use mathlib.Core.Bool.{false}
 use Prim.Native.Nat.{ℕ, _-_, _≤_, _<_}
 use native.Mathlib.Omega.{arith}
-use Rattle.search.specs.Packed.{cell}
-use Rattle.search.proofs.Words.{apart}
+use Rattle.packing.specs.Packed.{cell}
+use Rattle.packing.proofs.Rows.{apart}
 use Rattle.search.proofs.Columns.{none-more}
 use Rattle.search.proofs.find_row.Statement.{statement}
 use Rattle.search.proofs.find_row.Tie as tie

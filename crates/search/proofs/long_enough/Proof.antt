@@ -1,7 +1,7 @@
 -- `search::long_enough` meets its contract. Assumes nothing.
 use mathlib.Core.Path.{sym}
 use native.Mathlib.Omega.{arith}
-use Rattle.search.proofs.Words.{few-words}
+use Rattle.packing.proofs.Rows.{few-words}
 use Rattle.search.proofs.Passes.{enough-wide, enough-many, enough-is}
 use Rattle.search.proofs.long_enough.Statement.{statement}
 use Rattle.search.proofs.long_enough.Tie as tie

@@ -5,8 +5,8 @@ use native.Mathlib.Omega.{arith}
 use lib.ListN.{length}
 use borrow.Author.Needs.{needs}
 use mathlib.Core.Path.{_≡_}
-use Rattle.search.specs.Packed.{wordsFor, Packed}
-use Rattle.search.proofs.Put.{packed-none}
+use Rattle.packing.specs.Packed.{wordsFor, Packed}
+use Rattle.packing.proofs.Put.{packed-none}
 use Rattle.code.specs.Lists.{rowsFrom}
 use Rattle.halves.proofs.Starting.{pack-more, pack-end}
 use Rattle.halves.proofs.decode.pack_rows.Statement.{statement}

@@ -1,12 +1,12 @@
--- `code::even_with` meets its contract: the rows that are left decide. Assumes nothing.
+-- `commuting::even_with` meets its contract: the rows that are left decide. Assumes nothing.
 use mathlib.Core.Path.{_≡_, refl}
 use Prim.Native.Nat.{_-_}
 use borrow.Author.Needs.{needs}
 use Rattle.code.specs.Lists.{rowsBetween}
-use Rattle.code.specs.Tests.{evenWith?}
-use Rattle.code.proofs.Turns.{even-odd, even-turn, even-end}
-use Rattle.code.proofs.even_with.Statement.{statement}
-use Rattle.code.proofs.even_with.Tie as tie
+use Rattle.commuting.specs.Even.{evenWith?}
+use Rattle.commuting.proofs.Turns.{even-odd, even-turn, even-end}
+use Rattle.commuting.proofs.even_with.Statement.{statement}
+use Rattle.commuting.proofs.even_with.Tie as tie
 
 abbrev Inv-loop : tie.InvT-loop
 Inv-loop flat ends qubits stop r₀ r = evenWith? (rowsBetween flat ends r stop) qubits ≡ evenWith? (rowsBetween flat ends r₀ stop) qubits

@@ -1,11 +1,11 @@
--- `search::set_bits` meets its contract. Assumes nothing.
+-- `packing::set_bits` meets its contract. Assumes nothing.
 use mathlib.Core.Path.{_≡_, refl, _∙_}
 use Prim.Native.Nat.{_-_, _≤_}
 use native.Mathlib.Omega.{arith}
 use lib.ListN.{length}
-use Rattle.search.proofs.Put.{Setting, set-start, set-more, set-end}
-use Rattle.search.proofs.set_bits.Statement.{statement}
-use Rattle.search.proofs.set_bits.Tie as tie
+use Rattle.packing.proofs.Put.{Setting, set-start, set-more, set-end}
+use Rattle.packing.proofs.set_bits.Statement.{statement}
+use Rattle.packing.proofs.set_bits.Tie as tie
 
 abbrev Inv-loop : tie.InvT-loop
 Inv-loop m₀ w i row j₀ m j = (j ≤ length row) × (length m ≡ length m₀) × Setting w i row m₀ m j

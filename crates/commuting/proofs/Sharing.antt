@@ -11,10 +11,11 @@ use Rattle.binary.specs.Bits.{_⊕_}
 use Rattle.binary.specs.Meaning.{Row, Qubits, All, all?, has, odd, Even, Commute, commute?}
 use Rattle.binary.proofs.Bits.{bit, iff-eq, &&-true}
 use Rattle.binary.proofs.Rows.{odd-sum, odd-none, all-in, all-out}
 use Rattle.code.specs.Lists.{rowsBetween, Flat}
-use Rattle.code.specs.Tests.{Ascending, evenWith?}
+use Rattle.code.specs.Tests.{Ascending}
+use Rattle.commuting.specs.Even.{evenWith?}
 use Rattle.code.proofs.Flat.{flat-first}
 use Rattle.code.proofs.Order.{Distinct, ascending-distinct}
 
 ----------------------------------------------------------------------
 -- Symmetry

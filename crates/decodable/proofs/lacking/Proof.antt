@@ -1,9 +1,9 @@
--- `decoding::lacking` meets its contract. Assumes nothing.
+-- `decodable::lacking` meets its contract. Assumes nothing.
 use Rattle.records.specs.Lists.{shortSix}
-use Rattle.decoding.specs.Decoding.{lacking?}
+use Rattle.decodable.specs.Tests.{lacking?}
 use borrow.Author.Needs.{needs}
-use Rattle.decoding.proofs.lacking.Statement.{statement}
-use Rattle.decoding.proofs.lacking.Tie as tie
+use Rattle.decodable.proofs.lacking.Statement.{statement}
+use Rattle.decodable.proofs.lacking.Tie as tie
 
 cast-n : tie.Need-cast-n
 cast-n c = search needs

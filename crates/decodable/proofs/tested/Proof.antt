@@ -1,11 +1,11 @@
--- `decoding::tested` meets its contract. Assumes nothing.
+-- `decodable::tested` meets its contract. Assumes nothing.
 use mathlib.Core.Path.{ap}
 use borrow.Author.Tests.{lt-ltb, le-ltb}
-use Rattle.decoding.specs.declared.Test.the-variants.{Failed}
-use Rattle.decoding.specs.Decoding.{testOf}
+use Rattle.decodable.specs.declared.Test.the-variants.{Failed}
+use Rattle.decodable.specs.Tests.{testOf}
 use borrow.Author.Needs.{needs}
-use Rattle.decoding.proofs.tested.Statement.{statement}
-use Rattle.decoding.proofs.tested.Tie as tie
+use Rattle.decodable.proofs.tested.Statement.{statement}
+use Rattle.decodable.proofs.tested.Tie as tie
 
 codeless-requires : tie.Need-codeless-requires
 codeless-requires c κs = search needs

@@ -1,22 +1,23 @@
--- A row is put into the work list: its words are emptied, and its bits set one by one. Assumes nothing.
+-- A row is put into the work list: its words are cleared, and its bits set one by one. Assumes nothing.
 use mathlib.Core.Path.{_≡_, refl, sym, ap, _∙_, subst}
 use mathlib.Core.Bool.{true, false, _&&_, _||_, or-assoc, or-false, and-false}
 use mathlib.Core.Logic.{_⊎_, ⊎-elim}
 use mathlib.Core.List.{List, [], _∷_, _++_}
-use Prim.Native.Nat.{ℕ, _+_, _*_, _≤_, _<_}
+use Prim.Native.Nat.{ℕ, _+_, _*_, _/_, _%_, _≤_, _<_}
 use native.Mathlib.Numerals.{add-one}
 use native.Mathlib.Omega.{arith}
 use borrow.Author.Tests.{le-leb, lt-leb, lt-ltb, le-ltb, leb-true}
 use lib.Dec.{eqb, leb, ltb}
 use lib.ListN.{length, getD, drop, length-append, List·getD-append}
 use lib.Seq.{drop-cons, drop-length, getD-append-seam}
-use Rattle.binary.specs.Bits.{_⊕_}
 use Rattle.binary.specs.Meaning.{Row, has}
-use Rattle.search.specs.Packed.{cell, Packed, room, Put}
-use Rattle.search.specs.Search.{joinedBy, Run, BitsSet}
-use Rattle.binary.proofs.Bits.{⊕-self, never, and-out}
-use Rattle.search.proofs.Words.{other-cells, run-cells}
-use Rattle.binary.proofs.WordBits.{order, bit-xor}
+use Rattle.binary.specs.Words.{bit}
+use Rattle.packing.specs.Packed.{cell, Packed, room, Put}
+use Rattle.packing.specs.Packing.{BitsSet}
+use Rattle.binary.proofs.Bits.{never, and-out}
+use Rattle.packing.proofs.Rows.{other-cells}
+use Rattle.binary.proofs.WordBits.{order, bit-zero}
+use Rattle.lists.specs.Cleared.{Cleared}
 
 ----------------------------------------------------------------------
 -- Room
@@ -72,14 +73,18 @@ set-end w i row m₀ m s =
       kept = s .kept;
     }
 
-pub put-done : (w i : ℕ) (row m m′ m″ : List ℕ) → Run (joinedBy true) (i * w) (i * w) w m m′ → BitsSet w i (has row) m′ m″ → length m″ ≡ length m
+emptied : (w i : ℕ) (m m′ : List ℕ) → Cleared (i * w) (i * w + w) m m′ → (c : ℕ) → c < 64 * w → cell m′ w i c ≡ false
+unfolding cell
+emptied w i m m′ s c h = ap (λ (x : ℕ). bit x (c % 64)) (s .inside (i * w + c / 64) (omega arith) (omega arith)) ∙ bit-zero (c % 64)
+
+pub put-done : (w i : ℕ) (row m m′ m″ : List ℕ) → Cleared (i * w) (i * w + w) m m′ → BitsSet w i (has row) m′ m″ → length m″ ≡ length m
     → room w i (length m) ≡ true → Put w i row m m″ true
 put-done w i row m m′ m″ s b l e =
     record {
       answer = sym e;
       size = l;
-      cells = λ _ c h. b .cells c h ∙ ap (_|| has row c) (run-cells (joinedBy true) _⊕_ bit-xor w i i m m′ s c h ∙ ⊕-self (cell m w i c));
-      rest = λ _ k h. b .kept k h ∙ s .kept k h;
+      cells = λ _ c h. b .cells c h ∙ ap (_|| has row c) (emptied w i m m′ s c h);
+      rest = λ _ k h. b .kept k h ∙ s .outside k h;
       refused = λ t. never refl t;
     }
 

@@ -1,4 +1,4 @@
--- `code::share_odd` meets its contract: the parity so far, plus that of what is left of the row. Assumes nothing.
+-- `commuting::share_odd` meets its contract: the parity so far, plus that of what is left of the row. Assumes nothing.
 use mathlib.Core.Path.{_≡_, refl}
 use Prim.Native.Nat.{_-_, _≤_}
 use denote.Ref.{now}
@@ -7,9 +7,9 @@ use lib.ListN.{length, drop}
 use Rattle.binary.specs.Bits.{_⊕_}
 use Rattle.binary.specs.Meaning
 use Rattle.binary.specs.Meaning.{has}
-use Rattle.code.proofs.Turns.{odd-turn, odd-end}
-use Rattle.code.proofs.share_odd.Statement.{statement}
-use Rattle.code.proofs.share_odd.Tie as tie
+use Rattle.commuting.proofs.Turns.{odd-turn, odd-end}
+use Rattle.commuting.proofs.share_odd.Statement.{statement}
+use Rattle.commuting.proofs.share_odd.Tie as tie
 
 abbrev Inv-loop : tie.InvT-loop
 Inv-loop a b odd₀ i₀ odd i = (i ≤ length b) × (odd ⊕ Meaning.odd (has a) (drop i b) ≡ Meaning.odd (has a) b)

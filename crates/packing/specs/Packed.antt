@@ -1,20 +1,18 @@
--- Rows packed into 64-bit words, and what the public functions promise of them.
+-- Rows packed into 64-bit words, and what `put_row` promises of them.
 --   wordsFor   the words that a packed row of n columns takes
 --   cell       the bit in row i, column q of a work list, w words a row
 --   Packed     a work list holds these rows from its start
 --   room       whether a row may be put at place i
 --   Put        what `put_row` does
---   enough     whether the lists are long enough for the search
---   Marked     what `mark_fixed` does
 use mathlib.Core.Path.{_≡_}
-use mathlib.Core.Bool.{Bool, true, false, cond, _&&_}
+use mathlib.Core.Bool.{Bool, true, false, _&&_}
 use mathlib.Core.Logic.{_⊎_}
 use mathlib.Core.List.{List, []}
 use Prim.Native.Nat.{ℕ, _+_, _*_, _/_, _%_, _≤_, _<_}
 use lib.Dec.{leb, ltb}
 use lib.ListN.{length, getD}
-use Rattle.binary.specs.Meaning.{Row, Below, has, fixed?}
-use Rattle.binary.specs.Words.{bit, listed}
+use Rattle.binary.specs.Meaning.{Row, has}
+use Rattle.binary.specs.Words.{bit}
 
 abbrev pub wordsFor : ℕ → ℕ
 wordsFor n = (n + 63) / 64
@@ -37,17 +35,3 @@ pub record Put (w i : ℕ) (row m m′ : List ℕ) (r : Bool) : Type 0 where
   pub cells : r ≡ true → (q : ℕ) → q < 64 * w → cell m′ w i q ≡ has row q
   pub rest : r ≡ true → (k : ℕ) → (k < i * w) ⊎ (i * w + w ≤ k) → getD m′ k 0 ≡ getD m k 0
   pub refused : r ≡ false → m′ ≡ m
-
--- For so many rows of n columns.
-unfoldable pub enough : ℕ → ℕ → List ℕ → List ℕ → List ℕ → Bool
-enough n rows lost work marks = leb n 1024 && leb rows 512 && leb (rows * wordsFor n) (length work) && leb n (length lost) && leb n (length marks)
-
--- marks′ is marks with a 1 at each fixed qubit of the rows that the work list holds, if the lists are long enough. r is the answer.
-pub record Marked (n rows : ℕ) (lost work marks work′ marks′ : List ℕ) (r : Bool) : Type 0 where
-  pub answer : r ≡ enough n rows lost work marks
-  pub work-size : length work′ ≡ length work
-  pub size : length marks′ ≡ length marks
-  pub marked : r ≡ true → (rs : List Row) → length rs ≡ rows → Packed n (wordsFor n) rs work → Below n rs
-      → (q : ℕ) → q < n → getD marks′ q 0 ≡ cond (fixed? n rs (listed n lost) q) 1 (getD marks q 0)
-  pub rest : (k : ℕ) → n ≤ k → getD marks′ k 0 ≡ getD marks k 0
-  pub refused : r ≡ false → marks′ ≡ marks

@@ -1,8 +1,8 @@
--- `search::set_bit` meets its contract. Assumes nothing.
-use Rattle.search.proofs.Words.{bit-set-row, bit-past-row}
+-- `packing::set_bit` meets its contract. Assumes nothing.
+use Rattle.packing.proofs.Rows.{bit-set-row, bit-past-row}
 use borrow.Author.Needs.{needs}
-use Rattle.search.proofs.set_bit.Statement.{statement}
-use Rattle.search.proofs.set_bit.Tie as tie
+use Rattle.packing.proofs.set_bit.Statement.{statement}
+use Rattle.packing.proofs.set_bit.Tie as tie
 
 returns : tie.Need-returns
 returns c = bit-past-row _ _ _ _ (search needs)
