@@ -15,8 +15,8 @@ use Rattle.machine.specs.declared.HalfReport.{HalfReport}
 use Rattle.machine.specs.Machine.{Half}
 use Rattle.machine.specs.Report.{Shown, outcome}
 use Rattle.machine.specs.Lists.{Shows, seen}
-use Rattle.machine.specs.Demands.{Obeys, VerdictLaw, FillingsLaw, ClassesLaw, BudgetsLaw}
-use Rattle.machine.proofs.Demands.{verdict, fillings, classes, budgets}
+use Rattle.machine.specs.Demands.{Obeys, VerdictLaw, CountedLaw, FillingsLaw, ClassesLaw, BudgetsLaw}
+use Rattle.machine.proofs.Demands.{verdict, counted, fillings, classes, budgets}
 use Rattle.machine.proofs.Seen.{seen-is}
 use Rattle.records.specs.declared.Report.{Report}
 use Rattle.records.specs.declared.State.{State}
@@ -25,10 +25,11 @@ use Rattle.records.specs.declared.Answer.{Answer}
 use Rattle.records.specs.declared.Answer.the-variants.{Decoded}
 use Rattle.records.specs.Records.{Pauli, X, Z, lost, Record, report, recordOf}
 use Rattle.records.specs.History.{Code, Shot, History, empty, ready, half}
-use Rattle.records.specs.Table.{afterwards}
-use Rattle.records.specs.Lists.{Lists, Six, shortLists, marks, ShotIn, Holds, Represents}
+use Rattle.records.specs.Table.{tests, refusal, Numbered, NumberedLaw, afterwards}
+use Rattle.records.specs.Lists.{Lists, Six, shortLists, shortSix, marks, ShotIn, Holds, Represents}
 use Rattle.records.specs.Promise.{refusalAt, answerOf, Left, Written, Unworked}
-use Rattle.claim.specs.Calls.{Step, lent, Call, step, Keeps, stateLeft, listsLeft, Run, call, makes, past, Place, at, begins}
+use Rattle.records.proofs.Numbers.{lowest-numbered}
+use Rattle.claim.specs.Calls.{Step, lent, Call, step, Keeps, stateLeft, listsLeft, Run, call, makes, past, Place, at, begins, stateAfter}
 use Rattle.claim.specs.Claim.{Told, reportFor, listsFor, shows, Reported, HalfRight, SameHalf, Claim}
 
 ----------------------------------------------------------------------
@@ -67,22 +68,25 @@ held-after l₀ l st a (step k) e v p =
     (sym (refusal-same l₀ l e k a)) (p .carried a v .next)
 
 -- What the calls before leave: a state and lists that hold the code and shot of `past`, and lists as long as at the start.
-pub record Reached (l : Lists) (a : History) (k : Call) (l′ : Lists) : Type 0 where
-  pub state : State
+pub record Reached (l : Lists) (a : History) (k : Call) (st : State) (l′ : Lists) : Type 0 where
   pub long : AsLong l l′
-  pub held : Represents a state l′
-  pub kept : Keeps state l′ k
+  pub held : Represents a st l′
+  pub kept : Keeps st l′ k
 
 reached : (l₀ l : Lists) (st : State) (a : History) (before after : List Call) (k : Call) → AsLong l₀ l → Represents a st l
-    → Run st l (before ++ (k ∷ after)) → Reached l₀ (past l₀ a before) k (begins l before)
+    → Run st l (before ++ (k ∷ after)) → Reached l₀ (past l₀ a before) k (stateAfter st before) (begins l before)
 unfolding past
-reached l₀ l st a [] after k e v (call p run) = record { state = st; long = e; held = v; kept = p }
+reached l₀ l st a [] after k e v (call p run) = record { long = e; held = v; kept = p }
 reached l₀ l st a (j ∷ before) after k e v (call p run) =
     reached l₀ (listsLeft l j) (stateLeft st j) (makes l₀ a j) before after k (long-after l₀ l st j e p) (held-after l₀ l st a j e v p) run
 
-placed : (k : Call) (p : Place k) → Reached (p .lists) (at p) k (begins (p .lists) (p .before))
+placed : (k : Call) (p : Place k) → Reached (p .lists) (at p) k (stateAfter (p .state) (p .before)) (begins (p .lists) (p .before))
 placed k p =
     reached (p .lists) (p .lists) (p .state) empty (p .before) (p .after) k (record { flat = refl; ends = refl; shot = refl }) (p .fresh) (p .run)
+
+numbered : (short : Bool) (six : ℕ → Bool) (r : Record) (a : History) → Numbered (tests short six r a) (refusal short six r a)
+unfolding NumberedLaw
+numbered = lowest-numbered
 
 told : (k : Step) (p : Place (step k)) → Told (at p) (p .lists) (begins (p .lists) (p .before)) k
 told k p =
@@ -90,6 +94,7 @@ told k p =
     let c = z .kept .carried (at p) (z .held) in
     let e = sym (refusal-same (p .lists) (begins (p .lists) (p .before)) (z .long) k (at p)) in
     record {
+      number = numbered (shortLists (p .lists) (length (k .work))) (shortSix (k .six)) (recordOf (k .bytes)) (at p);
       answer = subst (λ (r : Option Refusal). k .reply .answer ≡ answerOf r (recordOf (k .bytes)) (at p)) e (c .answer);
       lists = subst (λ (r : Option Refusal). Left r (recordOf (k .bytes)) (at p) (begins (p .lists) (p .before)) (k .left .lists)) e (c .lists);
       six = subst (λ (r : Option Refusal). Written r (recordOf (k .bytes)) (at p) (k .six) (k .left .six)) e (c .six);
@@ -155,9 +160,10 @@ shown-as : (k : Step) (p : Place (step k)) (c : Code) (s : Shot) (budget limit :
 shown-as k p c s budget limit r v =
     let z = placed (step k) p in
     let t = told k p in
-    let held : Holds c s (z .state) (begins (p .lists) (p .before)) = subst (λ (a : History). Represents a (z .state) (begins (p .lists) (p .before))) (v .at) (z .held) in
+    let st = stateAfter (p .state) (p .before) in
+    let held : Holds c s st (begins (p .lists) (p .before)) = subst (λ (a : History). Represents a st (begins (p .lists) (p .before))) (v .at) (z .held) in
     let o = outcomes c s budget limit r (k .six) (k .left .six) (k .reply .answer) (refusalAt (recordOf (k .bytes)) (at p) (lent (p .lists) k)) (recordOf (k .bytes)) (at p) (v .at) (v .decode) (v .answer) (t .answer) (t .six) in
-    let good : (b : Pauli) → Obeys (half b c s) = λ b. obeys b c s (z .state) (begins (p .lists) (p .before)) held in
+    let good : (b : Pauli) → Obeys (half b c s) = λ b. obeys b c s st (begins (p .lists) (p .before)) held in
     record {
       obeyed = good;
       same = λ b. ap (λ (u : HalfReport). seen (c .n) u (listsFor b (k .left .six))) (o .reports b)
@@ -168,9 +174,14 @@ shown-as k p c s budget limit r v =
 -- The claim
 
 half-right : (h : Half) → Obeys h → (budget limit : ℕ) → HalfRight h budget limit (outcome h budget limit)
-unfolding VerdictLaw FillingsLaw ClassesLaw
+unfolding VerdictLaw CountedLaw FillingsLaw ClassesLaw
 half-right h good budget limit =
-    record { verdict = verdict h good budget limit; fillings = fillings h good budget limit; classes = classes h good budget limit }
+    record {
+      verdict = verdict h good budget limit;
+      counted = counted h good budget limit;
+      fillings = fillings h good budget limit;
+      classes = classes h good budget limit;
+    }
 
 same-half : (h : Half) → Obeys h → (budget limit budget′ limit′ : ℕ) → budget ≤ budget′ → limit ≤ limit′
     → SameHalf (outcome h budget limit) (outcome h budget′ limit′)
@@ -181,6 +192,9 @@ pub claim : Claim
 claim =
     record {
       told = told;
+      leaves = λ k p.
+          let z = placed k p in
+          held-after (p .lists) (begins (p .lists) (p .before)) (stateAfter (p .state) (p .before)) (at p) k (z .long) (z .held) (z .kept);
       right = λ k p c s budget limit r v b.
           let z = shown-as k p c s budget limit r v in
           subst (HalfRight (half b c s) budget limit) (sym (z .same b)) (half-right (half b c s) (z .obeyed b) budget limit);

@@ -75,7 +75,11 @@ pub record Place (k : Call) : Type 0 where
 abbrev pub at : {k : Call} → Place k → History
 at p = past (p .lists) empty (p .before)
 
--- The lists of code and shot that the call begins with.
+-- The lists of code and shot, and the state, that the calls leave.
 abbrev pub begins : Lists → List Call → Lists
 begins l [] = l
 begins l (k ∷ ks) = begins (listsLeft l k) ks
+
+abbrev pub stateAfter : State → List Call → State
+stateAfter st [] = st
+stateAfter st (k ∷ ks) = stateAfter (stateLeft st k) ks

@@ -12,21 +12,23 @@ use Rattle.machine.specs.Words.{finished?}
 use Rattle.machine.specs.Machine.{Half, isOpen}
 use Rattle.machine.specs.Report.{Shown}
 use Rattle.machine.specs.Lists.{HalfLists, seen}
-use Rattle.machine.specs.Demands.{Verdict, Fillings, Classes}
+use Rattle.machine.specs.Demands.{Verdict, Counted, Fillings, Classes}
 use Rattle.records.specs.declared.Report.{Report}
 use Rattle.records.specs.declared.Answer.the-variants.{Decoded}
 use Rattle.records.specs.Records.{Pauli, X, Z, report, recordOf}
 use Rattle.records.specs.History.{Code, Shot, History, ready, half}
-use Rattle.records.specs.Lists.{Lists, Six}
-use Rattle.records.specs.Promise.{refusalAt, answerOf, Left, Written, Unworked}
-use Rattle.claim.specs.Calls.{Step, lent, step, Place, at, begins}
+use Rattle.records.specs.Table.{Numbered}
+use Rattle.records.specs.Lists.{Lists, Six, Represents}
+use Rattle.records.specs.Promise.{refusalAt, testsAt, answerOf, Left, Written, Unworked}
+use Rattle.claim.specs.Calls.{Step, lent, Call, step, stateLeft, listsLeft, makes, Place, at, begins, stateAfter}
 
 ----------------------------------------------------------------------
 -- One call
 
--- Demand 1. The answer is the record's own or the refusal with the first number that fits, every list is left as document 01 says: l are
--- the lists of code and shot at the start, l′ before this call.
+-- Demand 1. The answer is the record's own or the refusal with the first number that fits, the lowest of those whose tests pass; every list is left
+-- as document 01 says: l are the lists of code and shot at the start, l′ before this call.
 pub record Told (a : History) (l l′ : Lists) (k : Step) : Type 0 where
+  pub number : Numbered (testsAt (recordOf (k .bytes)) a (lent l k)) (refusalAt (recordOf (k .bytes)) a (lent l k))
   pub answer : k .reply .answer ≡ answerOf (refusalAt (recordOf (k .bytes)) a (lent l k)) (recordOf (k .bytes)) a
   pub lists : Left (refusalAt (recordOf (k .bytes)) a (lent l k)) (recordOf (k .bytes)) a l′ (k .left .lists)
   pub six : Written (refusalAt (recordOf (k .bytes)) a (lent l k)) (recordOf (k .bytes)) a (k .six) (k .left .six)
@@ -50,9 +52,10 @@ pub record Reported (a : History) (k : Step) (c : Code) (s : Shot) (budget limit
   pub decode : recordOf (k .bytes) ≡ report budget limit
   pub answer : k .reply .answer ≡ Decoded r
 
--- Demands 2 and 3, of what a decode shows of a half.
+-- Demands 2 and 3, of what a decode shows of a half, and that its counts are those of the turns made.
 pub record HalfRight (h : Half) (budget limit : ℕ) (s : Shown) : Type 0 where
   pub verdict : Verdict h budget limit s
+  pub counted : Counted h s
   pub fillings : (s .report .word ≡ None → ⊥) → Fillings h s
   pub classes : (s .report .word ≡ None → ⊥) → ((q : ℕ) → isOpen (s .mark) q ≡ false) → Classes h s
 
@@ -68,7 +71,10 @@ pub record Claim : Type 0 where
   -- Every record that obeys document 01 and meets lists long enough is carried out. Every other record is refused with the first number that
   -- fits, the lent lists untouched, the code and shot left as the table says.
   pub told : (k : Step) (p : Place (step k)) → Told (at p) (p .lists) (begins (p .lists) (p .before)) k
-  -- Each half that a decode reports is right: its verdict, its fillings and its classes.
+  -- Each call leaves state and lists that hold the code and shot that it makes, the last call of a list too.
+  pub leaves : (k : Call) (p : Place k)
+      → Represents (makes (p .lists) (at p) k) (stateLeft (stateAfter (p .state) (p .before)) k) (listsLeft (begins (p .lists) (p .before)) k)
+  -- Each half that a decode reports is right: its verdict, its counts, its fillings and its classes.
   pub right : (k : Step) (p : Place (step k)) (c : Code) (s : Shot) (budget limit : ℕ) (r : Report) → Reported (at p) k c s budget limit r
       → (b : Pauli) → HalfRight (half b c s) budget limit (shows b c r k)
   -- Take any two reported decodes in such lists with the same code and the same shot, the second with a guess budget and a turn limit no

@@ -25,7 +25,7 @@ use Rattle.records.specs.Lists.{Six, Lent, held, lentOf, shortLists, shortHalf,
 use Rattle.records.specs.States.{withoutCode, endedOf, openedOf, saying}
 use Rattle.records.specs.Promise.{ShotLeft, refusalAt, Carried, Promised}
 use Rattle.records.proofs.HeldStates.{holds-ended, holds-left, no-code, with-code}
-use Rattle.records.proofs.Answers.{unchanged, carried}
+use Rattle.records.proofs.Answers.{past-same, says-refused, says-nothing, unchanged, carried}
 use Rattle.records.proofs.Range.{InRange, range-out, LongLists, long-lists, LongHalf, long-half}
 use Rattle.readout.specs.Readout.{Begun}
 use Rattle.readout.proofs.Shots.{left-begun, holds-opened}
@@ -113,7 +113,10 @@ module _ (budget limit : ℕ) (st : State) (l : Lent) (reply : Reply) where
   refuse n e f =
       record {
         lengths = unchanged l;
+        x-past = past-same (st .sizes .n) (l .six .x);
+        z-past = past-same (st .sizes .n) (l .six .z);
         refused = λ m i. refl;
+        says = says-refused w st reply n (same-reply (saying n true st) reply e);
         carried = λ a h. rw (same-reply (saying n true st) reply e)
             (carried w a l l (saying n true st) (some n) (f a h) refl (holds-left st (l .lists) n w a h) refl refl refl);
       }
@@ -195,6 +198,9 @@ module _ (budget limit : ℕ) (st : State) (flat ends shot shot′ work : List �
     decode-done r f =
         record {
           lengths = record { flat = refl; ends = refl; shot = b .long; work = d .work-long; x = d .x-long; z = d .z-long };
+          x-past = d .x-past;
+          z-past = d .z-past;
           refused = λ n e. let z : _≡_ {A = ℕ} 0 1 = cc in absurd (omega arith);
+          says = says-nothing (report budget limit) st r (λ n e. let z : _≡_ {A = ℕ} 0 1 = cc in omega arith);
           carried = with-code st (old .lists) (λ a. Carried (report budget limit) a old new r) (p .coded) (λ c s v. rw f (decoded c s v));
         }

@@ -59,6 +59,8 @@ module _ (z : Sizes) (budget limit : ℕ) (l : Lists) (readings : List ℕ) (tol
           work-long = f .work-long ∙ d .work-long;
           x-long = d .lengths;
           z-long = f .lengths;
+          x-past = d .past;
+          z-past = f .past;
           decoded = λ m n. let u = d .decoded (fit .x) (m .own) (m .others) in let v = f .decoded z-fits (n .own) (n .others) in (cc, u .1, v .1);
         }
 

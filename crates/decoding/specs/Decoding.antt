@@ -12,7 +12,7 @@ use Rattle.binary.specs.Meaning.{All}
 use Rattle.code.specs.Lists.{rowsFrom}
 use Rattle.code.specs.Tests.{Ascending}
 use Rattle.machine.specs.Report.{Shown, outcome}
-use Rattle.machine.specs.Lists.{HalfLists, Shows, SameLengths}
+use Rattle.machine.specs.Lists.{HalfLists, Past, Shows, SameLengths}
 use Rattle.halves.specs.Lists.{halfOf}
 use Rattle.halves.specs.Decode.{Given, fitting}
 use Rattle.records.specs.declared.Sizes.{Sizes}
@@ -75,6 +75,8 @@ pub record Reports (z : Sizes) (budget limit : ℕ) (l : Lists) (work work′ : 
   pub work-long : length work′ ≡ length work
   pub x-long : SameLengths (old .x) (new .x)
   pub z-long : SameLengths (old .z) (new .z)
+  pub x-past : Past (z .n) (old .x) (new .x)
+  pub z-past : Past (z .n) (old .z) (new .z)
   pub decoded : GoodRows (givenOf X z l budget limit) → GoodRows (givenOf Z z l budget limit)
       → (r ≡ record { x = shownOf (givenOf X z l budget limit) .report; z = shownOf (givenOf Z z l budget limit) .report })
       × Shows (z .n) (shownOf (givenOf X z l budget limit)) (old .x) (new .x)

@@ -19,7 +19,7 @@ use Rattle.machine.specs.Words.{finished?}
 use Rattle.machine.specs.Machine.{Form, End, decoded}
 use Rattle.machine.specs.Fillings.{filling}
 use Rattle.machine.specs.Report.{none?, shown}
-use Rattle.machine.specs.Lists.{view, HalfLists, digit, Shows}
+use Rattle.machine.specs.Lists.{view, HalfLists, digit, Shows, Past}
 use Rattle.halves.specs.Decode.{Given, fitting, Decodes}
 use Rattle.turns.specs.declared.RunAnswer.{RunAnswer}
 use Rattle.turns.specs.declared.RunAnswer.the-variants.{Over}
@@ -42,7 +42,17 @@ digit-constant x = ⊎-elim (λ (e : x % 2 ≡ 0). e ∙ ap digit (sym (low e)))
     high : x % 2 ≡ 1 → eqb (x / 2 ^ 0 % 2) 1 ≡ true
     high e = ap (λ (y : ℕ). eqb (y % 2) 1) (div-one x) ∙ ap (λ (y : ℕ). eqb y 1) e
 
-module _ (n : ℕ) (old mid : Qubitwise) (correction : List ℕ) (new : HalfLists) (r : HalfReport) (e : End) (k : Kept n old mid) (v : Ran n mid r e)
+-- What the turns and the end leave past n is as it was.
+past-kept : (n : ℕ) (marks forms correction : List ℕ) (mid : Qubitwise) (w : Word) (new : HalfLists) → Kept n (record { marks = marks; forms = forms }) mid
+    → Finished n w (record { marks = mid .marks; forms = mid .forms; correction = correction }) new
+    → Past n (record { marks = marks; forms = forms; correction = correction }) new
+past-kept n marks forms correction mid w new k f = record {
+  marks = λ q i. f .marks .rest q i ∙ k .marks-rest q i;
+  forms = λ q i. f .forms .rest q i ∙ k .forms-rest q i;
+  correction = λ q i. f .correction .rest q i;
+}
+
+module _ (n : ℕ) (mid : Qubitwise) (correction : List ℕ) (new : HalfLists) (r : HalfReport) (e : End) (v : Ran n mid r e)
     (f : Finished n (r .word) (record { marks = mid .marks; forms = mid .forms; correction = correction }) new) where
   word : r .word ≡ e .word
   word = ap (λ (h : HalfReport). h .word) (v .report)
@@ -72,18 +82,9 @@ module _ (n : ℕ) (old mid : Qubitwise) (correction : List ℕ) (new : HalfList
       ∙ ap digit (form-at (not-none (e .word) j) q i 0 ∙ sym (value-off (e .state .forms .live) (e .state .forms .form q)))))
       (λ j. rw j)
 
-  pub ended-shows : (marks forms : List ℕ) → old ≡ record { marks = marks; forms = forms }
-      → Shows n (shown n e) (record { marks = marks; forms = forms; correction = correction }) new
+  pub ended-shows : (old : HalfLists) → Past n old new → Shows n (shown n e) old new
   unfolding shown
-  ended-shows marks forms same =
-      record {
-        marks = marks-shown;
-        forms = forms-shown;
-        correction = flips-shown;
-        marks-rest = λ q i. f .marks .rest q i ∙ k .marks-rest q i ∙ ap (λ (l : Qubitwise). getD (l .marks) q 0) same;
-        forms-rest = λ q i. f .forms .rest q i ∙ k .forms-rest q i ∙ ap (λ (l : Qubitwise). getD (l .forms) q 0) same;
-        correction-rest = λ q i. f .correction .rest q i;
-      }
+  ended-shows old past = record { marks = marks-shown; forms = forms-shown; correction = flips-shown; past = past }
 
 pub half-done : (n : ℕ) (c : RowLists) (lost : List ℕ) (other others budget limit : ℕ) (marks marks₁ forms correction work work′ : List ℕ) (mid : Qubitwise) (new : HalfLists)
     (a : RunAnswer) (r : HalfReport) → Started n (c .flat) (c .ends) lost other others marks marks₁
@@ -98,13 +99,14 @@ half-done n c lost other others budget limit marks marks₁ forms correction wor
         forms = f .forms .long ∙ v .kept .forms-long;
         correction = f .correction .long;
       };
+      past = past;
       shows = λ own good.
           let h = halfIn n c lost other others in
           let o = v .over fits in
           let same : o .0 ≡ r = cc in
           let w = subst (λ (x : HalfReport). Ran n mid x (decoded h budget limit)) same
           (subst (Ran n mid (o .0)) (sym (decoded-is n c lost other others budget limit marks marks₁ begun good)) (o .2 own)) in
-          (w .report, ended-shows n (record { marks = marks; forms = forms }) mid correction new r (decoded h budget limit) kept w f marks forms refl);
+          (w .report, ended-shows n mid correction new r (decoded h budget limit) w f (record { marks = marks; forms = forms; correction = correction }) past);
     }
   where
     kept : Kept n (record { marks = marks; forms = forms }) mid
@@ -114,6 +116,9 @@ half-done n c lost other others budget limit marks marks₁ forms correction wor
       marks-rest = λ q i. v .kept .marks-rest q i ∙ begun .rest q i;
       forms-rest = v .kept .forms-rest;
     }
+
+    past : Past n (record { marks = marks; forms = forms; correction = correction }) new
+    past = past-kept n marks forms correction mid (r .word) new kept f
 
 -- Sizes and lists that fit the decode fit its turns.
 pub turns-fit : (n lit first count budget work marks forms : ℕ) → n ≤ 1024 → count ≤ 512 → first ≤ 512 → budget ≤ 63 → 8192 ≤ work → first + count ≤ lit
@@ -165,6 +170,7 @@ module _ (g : Given) (work : List ℕ) (old : HalfLists) (told : Bool)
   decodes-refused e =
       record {
         lengths = record { marks = refl; forms = refl; correction = refl };
+        past = record { marks = λ q i. refl; forms = λ q i. refl; correction = λ q i. refl };
         work-long = refl;
         refused = λ i. (refl, refl, refl);
         answered = λ i. never i (fitting-is g (length work) old ∙ sym tells ∙ e);
@@ -177,6 +183,7 @@ module _ (g : Given) (work : List ℕ) (old : HalfLists) (told : Bool)
   decodes-done e work′ new r long v =
       record {
         lengths = v .lengths;
+        past = v .past;
         work-long = long;
         refused = λ i. never (fitting-is g (length work) old ∙ sym tells ∙ e) i;
         answered = λ i f. let z : _≡_ {A = ℕ} 0 1 = cc in omega arith;

@@ -14,7 +14,7 @@ use Rattle.code.specs.Tests.{Ascending}
 use Rattle.halves.specs.declared.HalfAnswer.{HalfAnswer}
 use Rattle.halves.specs.declared.HalfAnswer.the-variants.{Refused, Decoded}
 use Rattle.machine.specs.Report.{Shown, outcome}
-use Rattle.machine.specs.Lists.{HalfLists, Shows, SameLengths}
+use Rattle.machine.specs.Lists.{HalfLists, Past, Shows, SameLengths}
 use Rattle.halves.specs.Lists.{halfOf}
 
 -- What a half is decoded from: n, the lists of code and shot, its own rows and the other kind's (a first row and a count each), the budget
@@ -39,10 +39,11 @@ fitting g work l =
     && leb 8192 work && leb (g .n) (length (g .lost)) && leb (g .first + g .count) (length (g .lit))
     && leb (g .n) (length (l .marks)) && leb (g .n) (length (l .forms)) && leb (g .n) (length (l .correction))
 
--- Where sizes and lists fit, the half is decoded: of rows that are strictly ascending and below n, the answer and the lists are what the machine
+-- For every input the lists keep their lengths and what is past n. Where sizes and lists fit, the half is decoded: of rows that are strictly ascending and below n, the answer and the lists are what the machine
 -- makes of code, shot, budget and limit. Otherwise nothing is written. The work list keeps its length and may hold anything.
 pub record Decodes (g : Given) (work work′ : List ℕ) (old new : HalfLists) (r : HalfAnswer) : Type 0 where
   pub lengths : SameLengths old new
+  pub past : Past (g .n) old new
   pub work-long : length work′ ≡ length work
   pub refused : fitting g (length work) old ≡ false → (r ≡ Refused) × (new ≡ old) × (work′ ≡ work)
   pub answered : fitting g (length work) old ≡ true → r ≡ Refused → ⊥

@@ -21,7 +21,7 @@ use Rattle.machine.specs.declared.HalfReport.{HalfReport}
 use Rattle.machine.specs.Machine.{startMark, Half}
 use Rattle.machine.specs.Words.{finished?}
 use Rattle.machine.specs.Report.{none?, outcome}
-use Rattle.machine.specs.Lists.{view, HalfLists, SameLengths, Shows}
+use Rattle.machine.specs.Lists.{view, HalfLists, SameLengths, Past, Shows}
 use Rattle.turns.specs.Turns.{RowLists}
 use Rattle.halves.specs.Lists.{halfOf}
 use Rattle.halves.specs.Fills.{Filled}
@@ -61,5 +61,6 @@ fits? n lost lit first count other others budget work marks forms correction =
 
 pub record HalfDone (n : ℕ) (c : RowLists) (lost : List ℕ) (other others budget limit : ℕ) (old new : HalfLists) (r : HalfReport) : Type 0 where
   pub lengths : SameLengths old new
+  pub past : Past n old new
   pub shows : All (Ascending n) (rowsFrom (c .flat) (c .ends) (c .first) (c .count)) → All (Ascending n) (rowsFrom (c .flat) (c .ends) other others)
       → let s = outcome (halfIn n c lost other others) budget limit in (r ≡ s .report) × Shows n s old new

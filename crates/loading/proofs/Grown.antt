@@ -3,7 +3,7 @@
 --   grown-answer, grown-holds  the reply to sizes or a row that are taken is the table's
 --   grown-row                  one row more, of either kind
 use mathlib.Core.Path.{_≡_, refl, sym, ap, _∙_, subst}
-use mathlib.Core.Bool.{Bool, true, false, not, _&&_, _||_}
+use mathlib.Core.Bool.{Bool, true, false, not, _&&_, _||_, cond}
 use mathlib.Core.Logic.{_⊎_, inl, inr, ⊎-elim}
 use mathlib.Core.List.{List, [], _∷_, _++_, append-nil, append-assoc}
 use Prim.Native.Nat.{ℕ, _+_, _≤_, _<_}
@@ -23,6 +23,8 @@ use Rattle.commuting.proofs.Sharing.{commute-told}
 use Rattle.records.specs.declared.Sizes.{Sizes}
 use Rattle.records.specs.declared.Phase.the-variants.{Loading, Ready}
 use Rattle.records.specs.declared.State.{State}
+use Rattle.records.specs.declared.Refusal.{Refusal}
+use Rattle.records.specs.declared.Answer.the-variants.{Refused, Taken, Complete}
 use Rattle.records.specs.declared.Reply.{Reply}
 use Rattle.records.specs.Records.{Pauli, X, Z}
 use Rattle.records.specs.History.{Code, loading, ready, emptyShot, loaded, addRow}
@@ -215,3 +217,14 @@ module _ (st : State) (xs zs : List Row) (flat ends shot : List ℕ) (h : Loads 
           flat = rw append-assoc at flat-next;
           flag = clash-told Z t;
         }
+
+----------------------------------------------------------------------
+-- Not refused
+
+-- Sizes or a row that are taken are not refused.
+one-of : (b : Bool) (x y : Reply) (n : Refusal) (s : Sizes) → x .answer ≡ Taken → y .answer ≡ Complete s → cond b x y .answer ≡ Refused n → ⊥
+one-of true x y n s e f i = let z : _≡_ {A = ℕ} 0 1 = cc in omega arith
+one-of false x y n s e f i = let z : _≡_ {A = ℕ} 0 1 = cc in omega arith
+
+pub not-refused : (s : Sizes) (rows : ℕ) (clash : Bool) (n : Refusal) → progressOf s rows clash .answer ≡ Refused n → ⊥
+not-refused s rows clash n = one-of (ltb rows (s .x + s .z)) _ _ n s refl refl

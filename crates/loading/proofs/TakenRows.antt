@@ -18,7 +18,7 @@ use Rattle.records.specs.declared.Sizes.{Sizes}
 use Rattle.records.specs.declared.State.{State}
 use Rattle.records.specs.declared.Refusal.{Refusal}
 use Rattle.records.specs.declared.Refusal.the-variants.{Place, Clash, Short}
-use Rattle.records.specs.declared.Answer.the-variants.{Refused, Taken, Complete}
+use Rattle.records.specs.declared.Answer.the-variants.{Refused}
 use Rattle.records.specs.declared.Reply.{Reply}
 use Rattle.records.specs.Records.{Pauli, X, Z, row}
 use Rattle.records.specs.History.{History, empty, loading, ready, addRow}
@@ -27,9 +27,9 @@ use Rattle.records.specs.Lists.{Lists, held, Loads, Represents}
 use Rattle.records.specs.Steps.{Answered, Does}
 use Rattle.loading.specs.Loading.{loads?, inTurn, awaits?, clashing, progressOf, RowTaken}
 use Rattle.records.specs.States.{saying}
-use Rattle.records.proofs.Answers.{answered, answered-refused}
+use Rattle.records.proofs.Answers.{answered, answered-refused, says-refused, says-nothing}
 use Rattle.records.proofs.Range.{InRange, range-out}
-use Rattle.loading.proofs.Grown.{Grown, xsWith, zsWith, added, clash-told, row-fits, grown-row, grown-answer, grown-holds}
+use Rattle.loading.proofs.Grown.{not-refused, Grown, xsWith, zsWith, added, clash-told, row-fits, grown-row, grown-answer, grown-holds}
 
 ----------------------------------------------------------------------
 -- The row awaited
@@ -208,17 +208,17 @@ module _ (p : Pauli) (st : State) (flat ends shot : List ℕ) (q : Row) (six : �
 ----------------------------------------------------------------------
 -- What `add_row` and `take_row` promise
 
--- Sizes or a row that are taken are not refused.
-one-of : (b : Bool) (x y : Reply) (n : Refusal) (s : Sizes) → x .answer ≡ Taken → y .answer ≡ Complete s → cond b x y .answer ≡ Refused n → ⊥
-one-of true x y n s e f i = let z : _≡_ {A = ℕ} 0 1 = cc in omega arith
-one-of false x y n s e f i = let z : _≡_ {A = ℕ} 0 1 = cc in omega arith
-
-not-refused : (s : Sizes) (rows : ℕ) (clash : Bool) (n : Refusal) → progressOf s rows clash .answer ≡ Refused n → ⊥
-not-refused s rows clash n = one-of (ltb rows (s .x + s .z)) _ _ n s refl refl
-
 module _ (p : Pauli) (st : State) (flat ends : List ℕ) (q : Row) (r : Reply) where
-  pub unwritten : (short : Bool) → ((six : ℕ → Bool) (l : Lists) → Does short six (row p q) st l l r) → RowTaken p st flat ends q short r flat ends
-  unwritten short f = record { flat-long = refl; ends-long = refl; refused = λ n e. (refl, refl); does = λ six shot w long. f six (held flat ends shot) }
+  pub unwritten : (short : Bool) (n : Refusal) → r ≡ saying n false st → ((six : ℕ → Bool) (l : Lists) → Does short six (row p q) st l l r)
+      → RowTaken p st flat ends q short r flat ends
+  unwritten short n is f =
+      record {
+        flat-long = refl;
+        ends-long = refl;
+        refused = λ n e. (refl, refl);
+        says = says-refused (row p q) st r n is;
+        does = λ six shot w long. f six (held flat ends shot);
+      }
 
   pub not-short : (flat′ ends′ : List ℕ) (short : Bool) → short ≡ false → RowTaken p st flat ends q false r flat′ ends′
       → RowTaken p st flat ends q short r flat′ ends′
@@ -231,6 +231,7 @@ module _ (p : Pauli) (st : State) (flat ends : List ℕ) (q : Row) (r : Reply) w
           flat-long = refl;
           ends-long = refl;
           refused = λ n e. (refl, refl);
+          says = says-refused (row p q) st r Clash is;
           does = λ six shot w long. row-clash p st flat ends shot q six t asc clash told r (sym last ∙ e) is;
         }
 
@@ -241,6 +242,10 @@ module _ (p : Pauli) (st : State) (flat ends : List ℕ) (q : Row) (r : Reply) w
         record {
           flat-long = long .0;
           ends-long = long .1;
-          refused = λ n i. absurd (not-refused (st .sizes) (st .rows + 1) clash n (sym (ap (λ (x : Reply). x .answer) is) ∙ i));
+          refused = λ n i. absurd (taken n i);
+          says = says-nothing (row p q) st r taken;
           does = λ six shot w wide. row-added p st flat ends shot q six t asc clash told flat′ ends′ done r w (wide refl .0) (wide refl .1) (sym last ∙ e) push is;
         }
+      where
+        taken : (n : Refusal) → r .answer ≡ Refused n → ⊥
+        taken n i = not-refused (st .sizes) (st .rows + 1) clash n (sym (ap (λ (x : Reply). x .answer) is) ∙ i)

@@ -2,7 +2,7 @@
 --   awaits?     whether the state awaits a row of this kind; its sizes are tested too, so that an altered state stays in range
 --   clashing    the clash flag with one row more
 --   progressOf  the reply to sizes or a row that are taken: the code is loading or complete
---   RowTaken    what taking up a row does
+--   SizesTaken  what taking up sizes does; RowTaken: a row
 use mathlib.Core.Path.{_≡_}
 use mathlib.Core.Bool.{Bool, true, false, not, _&&_, _||_, cond}
 use mathlib.Core.List.{List}
@@ -19,9 +19,10 @@ use Rattle.records.specs.declared.State.{State}
 use Rattle.records.specs.declared.Refusal.{Refusal}
 use Rattle.records.specs.declared.Answer.the-variants.{Refused, Taken, Complete}
 use Rattle.records.specs.declared.Reply.{Reply}
-use Rattle.records.specs.Records.{Pauli, X, Z, row}
+use Rattle.records.specs.Records.{Pauli, X, Z, size, row}
 use Rattle.records.specs.Table.{inRange}
-use Rattle.records.specs.Lists.{held}
+use Rattle.records.specs.Lists.{Lists, held}
+use Rattle.records.specs.Promise.{Says}
 use Rattle.records.specs.Steps.{Does}
 
 abbrev pub loads? : Phase → Bool
@@ -52,11 +53,17 @@ progressOf s rows clash =
     cond (ltb rows (s .x + s .z)) (record { state = countedOf Loading s rows clash; answer = Taken })
     (record { state = countedOf Ready s rows clash; answer = Complete s })
 
+-- Sizes write no list.
+pub record SizesTaken (n x z : ℕ) (st : State) (short : Bool) (r : Reply) : Type 0 where
+  pub says : Says (size n x z) st r
+  pub does : (l : Lists) (six : ℕ → Bool) → Does short six (size n x z) st l l r
+
 -- Lists that are not short have room for every row. A row reads and writes no list of the shot, and no refusal writes at all.
 pub record RowTaken (p : Pauli) (st : State) (flat ends qubits : List ℕ) (short : Bool) (r : Reply) (flat′ ends′ : List ℕ) : Type 0 where
   pub flat-long : length flat′ ≡ length flat
   pub ends-long : length ends′ ≡ length ends
   pub refused : (n : Refusal) → r .answer ≡ Refused n → (flat′ ≡ flat) × (ends′ ≡ ends)
+  pub says : Says (row p qubits) st r
   pub does :
       (six : ℕ → Bool) (shot : List ℕ) → length qubits ≤ 16 → (short ≡ false → (16384 ≤ length flat) × (1024 ≤ length ends))
       → Does short six (row p qubits) st (held flat ends shot) (held flat′ ends′ shot) r

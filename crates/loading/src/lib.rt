@@ -1,12 +1,10 @@
 // The records that load a code: its sizes, then its rows.
 ghost use mathlib.Core.Path.{_≡_};
-ghost use mathlib.Core.Bool.{Bool, true, false, _&&_};
-ghost use Prim.Native.Nat.{ℕ, _+_, _<_};
+ghost use mathlib.Core.Bool.{true, false, _&&_};
+ghost use Prim.Native.Nat.{_+_, _<_};
 ghost use Rattle.code.specs.Tests.{ascending?};
-ghost use Rattle.records.specs.Records.{pauli, size};
-ghost use Rattle.records.specs.Lists.{Lists};
-ghost use Rattle.records.specs.Steps.{Does};
-ghost use Rattle.loading.specs.Loading.{loads?, awaits?, clashing, progressOf, RowTaken};
+ghost use Rattle.records.specs.Records.{pauli};
+ghost use Rattle.loading.specs.Loading.{loads?, awaits?, clashing, progressOf, SizesTaken, RowTaken};
 use code::Row;
 use records::Answer;
 use records::Phase;
@@ -50,7 +48,7 @@ fn progress(sizes: Sizes, rows: u16, clash: bool) -> Reply
 
 // Sizes drop any code and shot and start loading.
 pub fn take_sizes(st: State, n: u16, x: u16, z: u16, short: bool) -> Reply
-    ensures { λ r. ⌜ ((l : Lists) (six : ℕ → Bool) → Does short six (size n x z) st l l r) ⌝ }
+    ensures { λ r. ⌜ SizesTaken n x z st short r ⌝ }
 {
     if !in_range(n, x, z) {
         return refused(st, Refusal::Size, false);

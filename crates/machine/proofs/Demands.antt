@@ -16,7 +16,7 @@ use Rattle.machine.specs.Words.{finished?}
 use Rattle.machine.specs.Machine.{Form, Forms, blank, State, Stage, on, failed, End, Half, readings, checks, fixedOf, ruleOf, startOf, decoded, start, startMark, isOpen, closed?, dangling, degree, takeUpAll, stage, turn, noneOpen}
 use Rattle.machine.specs.Fillings.{filling}
 use Rattle.machine.specs.Report.{Shown, shown, outcome, none?}
-use Rattle.machine.specs.Demands.{Obeys, FitsHalf, VerdictLaw, Fillings, FillingsLaw, ClassesLaw, BudgetsLaw, turnOf, turned, stageOf, CountsLaw, EmptiedLaw}
+use Rattle.machine.specs.Demands.{Obeys, FitsHalf, VerdictLaw, Fillings, FillingsLaw, ClassesLaw, BudgetsLaw, turnOf, turned, stageOf, CountsLaw, CountedLaw, EmptiedLaw}
 use Rattle.machine.proofs.Runs.{Rule, turnsOf, Said, turn-either, run-keeps, run-said}
 use Rattle.machine.proofs.Stages.{Good, turn-good, start-good}
 use Rattle.machine.proofs.Guessing.{most-rule}
@@ -305,6 +305,21 @@ counts h obeys budget limit =
         by : (b : Bool) → none? (e .word) ≡ b → turnsOf (stageOf e) ≡ e .state .turns
         by true i = rw i
         by false i = rw i
+
+pub counted : CountedLaw
+unfolding CountsLaw CountedLaw shown
+counted h obeys budget limit =
+    let c = counts h obeys budget limit in
+    record {
+      state = decoded h budget limit .state;
+      steps = sym (c .steps);
+      fixed = refl;
+      turns = c .turns;
+      guesses = refl;
+      live = refl;
+      marks = λ e q. rw e;
+      forms = λ e q k. rw e;
+    }
 
 ----------------------------------------------------------------------
 -- Lists

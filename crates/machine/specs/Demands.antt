@@ -4,8 +4,9 @@
 --   Fillings     demand 3: live guesses and fillings
 --   Classes      demand 3: fillings and classes, when no qubit is open
 --   Counts       the turns made are the machine's turns; the counts are those of the marks
+--   Counted      the same of what the half shows
 --   Emptied      what is 0 after none, and after spent and stopped
---   VerdictLaw, FillingsLaw, ClassesLaw, CountsLaw, EmptiedLaw: each half of a code and a shot that obey, with any budget and limit, is so
+--   VerdictLaw, FillingsLaw, ClassesLaw, CountsLaw, CountedLaw, EmptiedLaw: each half of a code and a shot that obey, with any budget and limit, is so
 --   BudgetsLaw   demand 3: two decodes of the same code and shot, the second with a budget and a limit no smaller
 use mathlib.Core.Path.{_≡_}
 use mathlib.Core.Bool.{Bool, true, false, not, _&&_}
@@ -103,13 +104,14 @@ abbrev pub turned : Half → ℕ → Stage → Stage
 turned h zero s = s
 turned h (suc k) s = turnOf h (turned h k s)
 
+-- The stage of a half that ended in none, or did not.
+abbrev pub ended : Bool → State → Stage
+ended true st = failed st
+ended false st = on st
+
 -- The stage that a half ended in.
 abbrev pub stageOf : End → Stage
-stageOf e = by (none? (e .word)) (e .state)
-  where
-    by : Bool → State → Stage
-    by true st = failed st
-    by false st = on st
+stageOf e = ended (none? (e .word)) (e .state)
 
 -- Turns equal the machine's steps from the start, and the marks 2 and 3 of the state that the half ended in, none included. Every turn
 -- settles exactly one qubit: with the open ones, the turns made are the lost qubits that are not fixed. A qubit that is not settled has
@@ -124,6 +126,21 @@ pub record Counts (h : Half) (e : End) : Type 0 where
 
 unfoldable pub CountsLaw : Type 0
 CountsLaw = (h : Half) → Obeys h → (budget limit : ℕ) → Counts h (decoded h budget limit)
+
+-- What a half shows counts what it did: the turns made lead the machine from its start to the stage that the half ended in, for none that of the
+-- turn, or the start, that failed; the counts are those of that stage's marks, and marks and forms show it, unless it is none.
+pub record Counted (h : Half) (s : Shown) : Type 0 where
+  pub state : State
+  pub steps : turned h (s .report .turns) (startOf h) ≡ ended (none? (s .report .word)) state
+  pub fixed : s .report .fixed ≡ marked (h .size) (state .mark) 1
+  pub turns : s .report .turns ≡ marked (h .size) (state .mark) 2 + marked (h .size) (state .mark) 3
+  pub guesses : s .report .guesses ≡ marked (h .size) (state .mark) 3
+  pub live : s .report .live ≡ state .forms .live
+  pub marks : none? (s .report .word) ≡ false → (q : ℕ) → s .mark q ≡ state .mark q
+  pub forms : none? (s .report .word) ≡ false → (q k : ℕ) → s .form q k ≡ state .forms .form q k
+
+unfoldable pub CountedLaw : Type 0
+CountedLaw = (h : Half) → Obeys h → (budget limit : ℕ) → Counted h (outcome h budget limit)
 
 ----------------------------------------------------------------------
 -- Lists

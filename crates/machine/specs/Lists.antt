@@ -2,6 +2,7 @@
 --   view         a list read as a function of the qubits below n, and 0 elsewhere
 --   formsOf      the forms that a list of 64-bit words holds: bit k of a form is bit k of its word
 --   HalfLists    the three lists lent to a half: marks, forms, correction
+--   Past         elements past n stay
 --   Shows        the lists hold at each qubit below n what a half shows, and past n what they held
 --   seen         what the report and the lists of a decode show
 --   SameLengths  lists keep their lengths
@@ -32,14 +33,18 @@ abbrev pub digit : Bool → ℕ
 digit true = 1
 digit false = 0
 
+-- Of the lists at entry and at exit.
+pub record Past (n : ℕ) (old new : HalfLists) : Type 0 where
+  pub marks : (q : ℕ) → n ≤ q → getD (new .marks) q 0 ≡ getD (old .marks) q 0
+  pub forms : (q : ℕ) → n ≤ q → getD (new .forms) q 0 ≡ getD (old .forms) q 0
+  pub correction : (q : ℕ) → n ≤ q → getD (new .correction) q 0 ≡ getD (old .correction) q 0
+
 -- Of the lists at entry and at exit. A form is 64 bits: bit k of a qubit's form is bit k of its word.
 pub record Shows (n : ℕ) (s : Shown) (old new : HalfLists) : Type 0 where
   pub marks : (q : ℕ) → q < n → getD (new .marks) q 0 ≡ s .mark q
   pub forms : (q : ℕ) → q < n → (k : ℕ) → bit (getD (new .forms) q 0) k ≡ s .form q k
   pub correction : (q : ℕ) → q < n → getD (new .correction) q 0 ≡ digit (s .flip q)
-  pub marks-rest : (q : ℕ) → n ≤ q → getD (new .marks) q 0 ≡ getD (old .marks) q 0
-  pub forms-rest : (q : ℕ) → n ≤ q → getD (new .forms) q 0 ≡ getD (old .forms) q 0
-  pub correction-rest : (q : ℕ) → n ≤ q → getD (new .correction) q 0 ≡ getD (old .correction) q 0
+  pub past : Past n old new
 
 abbrev pub seen : ℕ → HalfReport → HalfLists → Shown
 seen n r l = record { report = r; mark = view n (l .marks); form = formsOf n (l .forms); flip = λ q. eqb (view n (l .correction) q) 1 }

@@ -25,7 +25,7 @@ use Rattle.records.specs.States.{withoutCode, openedOf, saying}
 use Rattle.records.specs.Promise.{ShotLeft}
 use Rattle.records.specs.Steps.{Answered, Does}
 use Rattle.records.proofs.HeldStates.{no-code, with-code}
-use Rattle.records.proofs.Answers.{answered, answered-refused}
+use Rattle.records.proofs.Answers.{answered, answered-refused, says-refused, says-nothing}
 use Rattle.records.proofs.Range.{small}
 use Rattle.readout.specs.Readout.{Begun, marked?, markReply, Marked, Adds}
 use Rattle.readout.proofs.Marks.{marked-at}
@@ -103,6 +103,7 @@ module _ (u : Set) (k : ℕ) (short : Bool) (st : State) (old new : List ℕ) (r
       record {
         long = ap length same;
         refused = m .refused;
+        says = says-refused (add u k) st r n e;
         does = λ six flat ends long a h.
             subst (λ (l : List ℕ). Answered short six (add u k) a (held flat ends old) (held flat ends l) r) (sym same)
             (answered-refused short six (add u k) a (held flat ends old) n st r (f six flat ends a h) h e);
@@ -163,6 +164,7 @@ module _ (u : Set) (k : ℕ) (short : Bool) (st : State) (old new : List ℕ) (r
             record {
               long = ap length f ∙ length-set mid at 1 ∙ b .long;
               refused = m .refused;
+              says = says-nothing (add u k) st r (λ n j. let z : _≡_ {A = ℕ} 0 1 = cc in omega arith);
               does = λ six flat ends long. with-code st (held flat ends old) (λ a. Answered short six (add u k) a (held flat ends old) (held flat ends new) r) e
                   (λ c s v.
                   let g : new ≡ set mid (firstOf u (sizesOf c) + k) 1 = f ∙ ap (λ (z : Sizes). set mid (firstOf u z + k) 1) (v .sizes) in

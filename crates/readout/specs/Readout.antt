@@ -18,6 +18,7 @@ use Rattle.records.specs.declared.Reply.{Reply}
 use Rattle.records.specs.Records.{Set, add}
 use Rattle.records.specs.Lists.{held}
 use Rattle.records.specs.States.{withoutCode, openedOf, saying}
+use Rattle.records.specs.Promise.{Says}
 use Rattle.records.specs.Steps.{Does}
 
 ----------------------------------------------------------------------
@@ -57,5 +58,6 @@ pub record Marked (short : Bool) (count first k : ℕ) (st : State) (old new : L
 pub record Adds (short : Bool) (u : Set) (k : ℕ) (st : State) (old new : List ℕ) (r : Reply) : Type 0 where
   pub long : length new ≡ length old
   pub refused : (n : Refusal) → r .answer ≡ Refused n → new ≡ old
+  pub says : Says (add u k) st r
   pub does : (six : ℕ → Bool) (flat ends : List ℕ) → (short ≡ false → 2048 ≤ length old)
       → Does short six (add u k) st (held flat ends old) (held flat ends new) r

@@ -7,16 +7,17 @@ use Prim.Native.Nat.{ℕ}
 use lib.ListN.{length}
 use borrow.Author.Tests.{not-true, not-false}
 use Rattle.binary.proofs.Bits.{never}
-use Rattle.machine.specs.Lists.{HalfLists, SameLengths}
+use Rattle.machine.specs.Lists.{HalfLists, Past, SameLengths}
 use Rattle.records.specs.declared.State.{State}
 use Rattle.records.specs.declared.Refusal.{Refusal}
+use Rattle.records.specs.declared.Answer.the-variants.{Refused}
 use Rattle.records.specs.declared.Reply.{Reply}
 use Rattle.records.specs.Records.{Record, unknown, wrong, size, row, add, report}
 use Rattle.records.specs.History.{History}
 use Rattle.records.specs.Table.{refusal, isReport, afterwards}
 use Rattle.records.specs.Lists.{Lists, Six, Lent, lentOf, shortLists, shortSix, Represents}
-use Rattle.records.specs.States.{saying}
-use Rattle.records.specs.Promise.{answerOf, Left, Written, Unworked, refusalAt, Carried, KeptLengths, Promised}
+use Rattle.records.specs.States.{leftBy, saying}
+use Rattle.records.specs.Promise.{answerOf, Left, Written, Unworked, refusalAt, Carried, KeptLengths, Says, Promised}
 use Rattle.records.specs.Steps.{Answered, Does, Keeps}
 use Rattle.records.proofs.HeldStates.{holds-left}
 
@@ -42,6 +43,17 @@ module _ (short : Bool) (six : ℕ → Bool) (w : Record) (a : History) (old : L
 
 pub same-lengths : (l : HalfLists) → SameLengths l l
 same-lengths l = record { marks = refl; forms = refl; correction = refl }
+
+pub past-same : (n : ℕ) (l : HalfLists) → Past n l l
+past-same n l = record { marks = λ q i. refl; forms = λ q i. refl; correction = λ q i. refl }
+
+-- A reply that refuses says what the table says; one that does not, nothing.
+pub says-refused : (w : Record) (st : State) (r : Reply) (n : Refusal) → r ≡ saying n (isReport w) st → Says w st r
+says-refused w st r n e m f =
+    let same : n ≡ m = cc in ap (λ (x : Reply). x .state) e ∙ ap (λ (k : Refusal). leftBy k (isReport w) st) same
+
+pub says-nothing : (w : Record) (st : State) (r : Reply) → ((n : Refusal) → r .answer ≡ Refused n → ⊥) → Says w st r
+says-nothing w st r f n e = absurd (f n e)
 
 pub unchanged : (l : Lent) → KeptLengths l l
 unchanged l = record { flat = refl; ends = refl; shot = refl; work = refl; x = same-lengths (l .six .x); z = same-lengths (l .six .z) }
@@ -72,13 +84,16 @@ unworked none (row p r) k e = refl
 unworked none (add u j) k e = refl
 unworked none (report budget limit) k e = never refl e
 
-pub promised : (w : Record) (st : State) (l l′ : Lists) (work : List ℕ) (six : Six) (r : Reply) → isReport w ≡ false → Keeps l l′ r
+pub promised : (w : Record) (st : State) (l l′ : Lists) (work : List ℕ) (six : Six) (r : Reply) → isReport w ≡ false → Keeps w st l l′ r
     → Does (shortLists l (length work)) (shortSix six) w st l l′ r → Promised w st (lentOf l work six) (lentOf l′ work six) r
 unfolding Does
 promised w st l l′ work six r i k d =
     record {
       lengths = record { flat = k .flat; ends = k .ends; shot = k .shot; work = refl; x = same-lengths (six .x); z = same-lengths (six .z) };
+      x-past = past-same (st .sizes .n) (six .x);
+      z-past = past-same (st .sizes .n) (six .z);
       refused = λ n e. ap (λ (x : Lists). lentOf x work six) (k .refused n e);
+      says = k .says;
       carried = λ a h.
           let n = refusal (shortLists l (length work)) (shortSix six) w a in
           let t = d a h in

@@ -1,4 +1,5 @@
 pub mod HeldStates
 pub mod Answers
 pub mod Range
+pub mod Numbers
 pub mod KindBytes

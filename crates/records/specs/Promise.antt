@@ -2,9 +2,11 @@
 --   answerOf    the answer to a record
 --   Left        what an answer leaves in the lists of code and shot
 --   Written     what an answer leaves in the six lists; Unworked: in the work list
---   refusalAt   the refusal that a record meets at a code and shot, with these lists lent
+--   refusalAt   the refusal that a record meets at a code and shot, with these lists lent; testsAt: the tests of the table
+--   Says        a refusal leaves the state that the table says
 --   Promised    what a record promises; Promise: the promise of `step`, of the record that the bytes are
 use mathlib.Core.Path.{_≡_}
+use mathlib.Core.Bool.{Bool}
 use mathlib.Core.Logic.{_⊎_}
 use mathlib.Core.Option.{Option, none, some}
 use mathlib.Core.List.{List}
@@ -14,7 +16,7 @@ use Rattle.binary.specs.Meaning.{Row}
 use Rattle.code.specs.Lists.{startOf}
 use Rattle.code.specs.Push.{written}
 use Rattle.machine.specs.Report.{outcome}
-use Rattle.machine.specs.Lists.{Shows, SameLengths}
+use Rattle.machine.specs.Lists.{Past, Shows, SameLengths}
 use Rattle.records.specs.declared.State.{State}
 use Rattle.records.specs.declared.Refusal.{Refusal}
 use Rattle.records.specs.declared.Answer.{Answer}
@@ -22,7 +24,8 @@ use Rattle.records.specs.declared.Answer.the-variants.{Refused, Taken, C
 use Rattle.records.specs.declared.Reply.{Reply}
 use Rattle.records.specs.Records.{X, Z, Record, unknown, wrong, size, row, add, report, recordOf}
 use Rattle.records.specs.History.{Code, rowCount, sizesOf, Shot, History, empty, loading, ready, half}
-use Rattle.records.specs.Table.{refusal, takes, afterwards}
+use Rattle.records.specs.Table.{tests, refusal, takes, isReport, afterwards}
+use Rattle.records.specs.States.{leftBy}
 use Rattle.records.specs.Lists.{Lists, Six, Lent, shortLists, shortSix, HeldShot, Represents}
 
 ----------------------------------------------------------------------
@@ -128,6 +131,9 @@ Unworked none (report budget limit) old new = length new ≡ length old
 abbrev pub refusalAt : Record → History → Lent → Option Refusal
 refusalAt w a l = refusal (shortLists (l .lists) (length (l .work))) (shortSix (l .six)) w a
 
+abbrev pub testsAt : Record → History → Lent → List (Refusal × Bool)
+testsAt w a l = tests (shortLists (l .lists) (length (l .work))) (shortSix (l .six)) w a
+
 pub record Carried (w : Record) (a : History) (old new : Lent) (r : Reply) : Type 0 where
   pub answer : r .answer ≡ answerOf (refusalAt w a old) w a
   pub next : Represents (afterwards (refusalAt w a old) w a) (r .state) (new .lists)
@@ -143,12 +149,19 @@ pub record KeptLengths (old new : Lent) : Type 0 where
   pub x : SameLengths (old .six .x) (new .six .x)
   pub z : SameLengths (old .six .z) (new .six .z)
 
--- For every input the lists keep their lengths, and no refusal writes to a lent list; and for whatever code and shot the state and the lists
--- hold, the answer, every lent element and the code and shot afterwards are the table's. Over altered lists or an altered state nothing else
--- is promised.
+-- The state after a refusal: where the table says that nothing changed, it is the state handed in.
+abbrev pub Says : Record → State → Reply → Type 0
+Says w st r = (n : Refusal) → r .answer ≡ Refused n → r .state ≡ leftBy n (isReport w) st
+
+-- For every input the lists keep their lengths, the six lists what is past n, and a refusal writes no lent list and leaves the state that the table
+-- says; and for whatever code and shot the state and the lists hold, the answer, every lent element and the code and shot afterwards are the
+-- table's. Over altered lists or an altered state nothing else is promised.
 pub record Promised (w : Record) (st : State) (old new : Lent) (r : Reply) : Type 0 where
   pub lengths : KeptLengths old new
+  pub x-past : Past (st .sizes .n) (old .six .x) (new .six .x)
+  pub z-past : Past (st .sizes .n) (old .six .z) (new .six .z)
   pub refused : (n : Refusal) → r .answer ≡ Refused n → new ≡ old
+  pub says : Says w st r
   pub carried : (a : History) → Represents a st (old .lists) → Carried w a old new r
 
 abbrev pub Promise : State → List ℕ → Lent → Lent → Reply → Type 0

@@ -2,12 +2,13 @@
 --   refusalNumber  the number of a refusal
 --   tests          the table's column "When", for each kind of record
 --   refusal        the lowest number that applies
+--   Numbered       the same by the numbers: the refusal's test passes, and no refusal of a lower number has one that does
 --   leaves         the table's column "After it"
 --   takes          what a record that is carried out makes of code and shot
 use mathlib.Core.Bool.{Bool, true, false, not, _&&_, _||_, cond}
 use mathlib.Core.Option.{Option, none, some}
-use mathlib.Core.List.{List, [], _∷_}
-use Prim.Native.Nat.{ℕ}
+use mathlib.Core.List.{List, [], _∷_, List·Memᴰ}
+use Prim.Native.Nat.{ℕ, _≤_}
 use lib.Dec.{eqb, leb, ltb}
 use lib.ListN.{length}
 use Rattle.binary.specs.Meaning.{Row, commute?}
@@ -88,6 +89,22 @@ lowest (t ∷ ts) = cond (t .1) (some (t .0)) (lowest ts)
 
 unfoldable pub refusal : Bool → (ℕ → Bool) → Record → History → Option Refusal
 refusal short six r a = lowest (tests short six r a)
+
+-- A refusal among tests that passes its own.
+abbrev pub Applies : List (Refusal × Bool) → Refusal → Type 0
+Applies ts n = List·Memᴰ (n, true) ts
+
+pub record LowestNumber (ts : List (Refusal × Bool)) (n : Refusal) : Type 0 where
+  pub applies : Applies ts n
+  pub least : (m : Refusal) → Applies ts m → refusalNumber n ≤ refusalNumber m
+
+-- Where no refusal is given, none applies.
+abbrev pub Numbered : List (Refusal × Bool) → Option Refusal → Type 0
+Numbered ts (some n) = LowestNumber ts n
+Numbered ts none = (m : Refusal) → Applies ts m → ⊥
+
+unfoldable pub NumberedLaw : Type 0
+NumberedLaw = (short : Bool) (six : ℕ → Bool) (r : Record) (a : History) → Numbered (tests short six r a) (refusal short six r a)
 
 ----------------------------------------------------------------------
 -- After it

@@ -19,9 +19,9 @@ use Rattle.records.specs.Lists.{Lists, Six, Lent, held, lentOf, shortLists, sho
 use Rattle.records.specs.States.{saying}
 use Rattle.records.specs.Steps.{Does, Keeps}
 use Rattle.records.specs.Promise.{Promise, Promised}
-use Rattle.records.proofs.Answers.{answered-refused, promised}
+use Rattle.records.proofs.Answers.{answered-refused, says-refused, promised}
 use Rattle.records.proofs.Range.{long-lists}
-use Rattle.loading.specs.Loading.{RowTaken}
+use Rattle.loading.specs.Loading.{SizesTaken, RowTaken}
 use Rattle.readout.specs.Readout.{Adds}
 use Rattle.reading.specs.declared.Shape.{Shape}
 use Rattle.reading.specs.declared.Shape.the-variants.{Unknown, Wrong, Size, Lose, Light, Decode}
@@ -101,7 +101,7 @@ module _ (bytes : List ℕ) (s : Shape) (v : RecordAs bytes s) where
   unfolding Does
   spoils n w e i refuses short st l r k =
       record {
-        keeps = record { flat = refl; ends = refl; shot = refl; refused = λ m j. refl };
+        keeps = record { flat = refl; ends = refl; shot = refl; refused = λ m j. refl; says = rw e (says-refused w st r n (rw i k)) };
         does = λ work six t. rw e (λ a h. answered-refused short six w a l n st r (refuses _ _ a) h (rw i k));
       }
 
@@ -121,11 +121,14 @@ module _ (bytes : List ℕ) (s : Shape) (v : RecordAs bytes s) where
     abbrev l : Lists
     l = held flat ends shot
 
-    pub take-size : s ≡ Size → (n x z : ℕ) → n ≡ number bytes 1 → x ≡ number bytes 3 → z ≡ number bytes 5
-        → ((l : Lists) (six : ℕ → Bool) → Does short six (size n x z) st l l r) → Takes short bytes st l l r
+    pub take-size : s ≡ Size → (n x z : ℕ) → n ≡ number bytes 1 → x ≡ number bytes 3 → z ≡ number bytes 5 → SizesTaken n x z st short r
+        → Takes short bytes st l l r
     take-size e n x z i j k d =
         let w : recordOf bytes ≡ size n x z = at-size e ∙ λ t. size (sym i t) (sym j t) (sym k t) in
-        record { keeps = record { flat = refl; ends = refl; shot = refl; refused = λ m i. refl }; does = λ work six t. rw w (d l six) }
+        record {
+          keeps = record { flat = refl; ends = refl; shot = refl; refused = λ m i. refl; says = rw w (d .says) };
+          does = λ work six t. rw w (d .does l six);
+        }
 
     pub take-row : (x : Bool) (w : ℕ) → s ≡ Shape.Row x w → (flat′ ends′ : List ℕ) → RowTaken (pauli x) st flat ends (numbers bytes 1 w) short r flat′ ends′
         → Takes short bytes st l (held flat′ ends′ shot) r
@@ -137,6 +140,7 @@ module _ (bytes : List ℕ) (s : Shape) (v : RecordAs bytes s) where
             ends = d .ends-long;
             shot = refl;
             refused = λ m i. let o = d .refused m i in ap₂ (λ (f g : List ℕ). held f g shot) (o .0) (o .1);
+            says = rw (z .0) (d .says);
           };
           does = λ work six t. rw (z .0) (d .does six shot (rw (numbers-length bytes 1 w) (z .1))
               (λ k. let o = long-lists l work (sym t ∙ k) in (o .flat, o .ends)));
@@ -145,7 +149,13 @@ module _ (bytes : List ℕ) (s : Shape) (v : RecordAs bytes s) where
     adds : (u : Set) (k : ℕ) → recordOf bytes ≡ add u k → (shot′ : List ℕ) → Adds short u k st shot shot′ r → Takes short bytes st l (held flat ends shot′) r
     adds u k e shot′ d =
         record {
-          keeps = record { flat = refl; ends = refl; shot = d .long; refused = λ m i. ap (λ (x : List ℕ). held flat ends x) (d .refused m i) };
+          keeps = record {
+            flat = refl;
+            ends = refl;
+            shot = d .long;
+            refused = λ m i. ap (λ (x : List ℕ). held flat ends x) (d .refused m i);
+            says = rw e (d .says);
+          };
           does = λ work six t. rw e (d .does six flat ends (λ i. long-lists l work (sym t ∙ i) .shot));
         }
 

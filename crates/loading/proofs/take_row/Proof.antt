@@ -13,7 +13,7 @@ refused-requires c κs = search needs
 
 returns : tie.Need-returns
 returns c =
-    unwritten _ _ _ _ _ _ _
+    unwritten _ _ _ _ _ _ _ _ (c .refused .ensures)
     (λ six l.
     row-place _ _ l _ _ six _ (told-false _ _ (c .before .before .awaits .ensures) (search needs)) (c .refused .ensures))
 
@@ -25,7 +25,7 @@ refused-requires-2 c κs = search needs
 
 returns-2 : tie.Need-returns-2
 returns-2 c =
-    unwritten _ _ _ _ _ _ _
+    unwritten _ _ _ _ _ _ _ _ (c .refused2 .ensures)
     (λ six l.
     row-wrong _ _ l _ _ six _ (told-true _ _ (c .before .before .before .before .before .awaits .ensures) (search needs)) (told-false _ _ (c .before .before .ascending .ensures) (search needs))
     (c .refused2 .ensures))
@@ -35,7 +35,7 @@ refused-requires-3 c κs = search needs
 
 returns-3 : tie.Need-returns-3
 returns-3 c =
-    unwritten _ _ _ _ _ _ _
+    unwritten _ _ _ _ _ _ _ _ (c .refused3 .ensures)
     (λ six l.
     row-short _ _ l _ _ six _ (told-true _ _ (c .before .before .before .before .before .before .awaits .ensures) (search needs)) (told-true _ _ (c .before .before .before .ascending .ensures) (search needs))
     (search needs) (c .refused3 .ensures))

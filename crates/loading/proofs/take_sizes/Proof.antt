@@ -14,13 +14,13 @@ refused-requires : tie.Need-refused-requires
 refused-requires c κs = search needs
 
 returns : tie.Need-returns
-returns c l six = size-refused _ l _ _ _ _ six _ (told-false _ _ (c .before .before .in-range .ensures) (search needs)) (c .refused .ensures)
+returns c = size-refused _ _ _ _ _ _ (told-false _ _ (c .before .before .in-range .ensures) (search needs)) (c .refused .ensures)
 
 refused-requires-2 : tie.Need-refused-requires-2
 refused-requires-2 c κs = search needs
 
 returns-2 : tie.Need-returns-2
-returns-2 c l six = size-short _ l _ _ _ _ six _ (told-true _ _ (c .before .before .before .in-range .ensures) (search needs)) (search needs) (c .refused2 .ensures)
+returns-2 c = size-short _ _ _ _ _ _ (told-true _ _ (c .before .before .before .in-range .ensures) (search needs)) (search needs) (c .refused2 .ensures)
 
 progress-requires : tie.Need-progress-requires
 progress-requires c κs =
@@ -29,7 +29,7 @@ progress-requires c κs =
     omega (arith, range .xs, range .zs)
 
 returns-3 : tie.Need-returns-3
-returns-3 c l six = size-taken _ l _ _ _ _ six _ (told-true _ _ (c .before .before .before .in-range .ensures) (search needs)) (search needs) (c .progress .ensures)
+returns-3 c = size-taken _ _ _ _ _ _ (told-true _ _ (c .before .before .before .in-range .ensures) (search needs)) (search needs) (c .progress .ensures)
 
 pub take-sizes-spec : {M : Type 1} → statement M
 take-sizes-spec =
