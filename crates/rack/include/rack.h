@@ -139,7 +139,7 @@ struct rack_state rack_fresh(void);
  *
  * State, `flat`, `ends` and `shot` pass from call to call as the last call left them, also where it refused; nobody else writes them in between. The work
  * list and the six lists of a decode may be others at every call. After RACK_ANSWER_DECODED the first n elements of a half's lists are its marks, its
- * forms (bit 0 the constant, bit k the k-th live guess) and its correction (1 for each qubit to flip).
+ * forms (bit 0 the constant, bit k the k-th live guess) and its correction (1 for each qubit to flip, if it is certain or unsure; else all 0).
  *
  * The caller owes: pointers that are not null, aligned for their elements and good for the length given; lists that do not overlap.
  * A list shorter than its least length gets RACK_REFUSAL_SHORT, and no refusal writes to a list. Over a state or lists that were altered between calls
@@ -236,7 +236,8 @@ static inline struct rack_record rack_lit_x(size_t row) {
     return rack_of_number(RACK_KIND_LIT_X, row);
 }
 
-/* Reports both halves and ends the shot. RACK_MOST_BUDGET and RACK_MOST_LIMIT unless you know better. A budget above 255 is handed over as 255. */
+/* Reports both halves and ends the shot. RACK_MOST_BUDGET and RACK_MOST_LIMIT unless you know better. A budget that a byte can't hold is handed over as
+ * 255: RACK_REFUSAL_BUDGET. */
 static inline struct rack_record rack_decode(size_t budget, size_t limit) {
     struct rack_record record = rack_of_kind(RACK_KIND_DECODE);
 

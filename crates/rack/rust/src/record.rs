@@ -41,7 +41,7 @@ impl Record {
         Record::of(kind::LIT_X).and(row)
     }
 
-    /// A budget above 255 is written as 255.
+    /// A budget that a byte can't hold is written as 255, and refused.
     pub fn decode(budget: usize, limit: usize) -> Record {
         Record::of(kind::DECODE).byte(budget.min(255) as u8).and(limit)
     }
