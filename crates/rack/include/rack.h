@@ -248,6 +248,7 @@ static inline struct rack_record rack_decode(size_t budget, size_t limit) {
 
 /* ---- A rack with lists that are always long enough ---- */
 
+/* 120 kB: static or from the heap. */
 struct rack {
     uint64_t work[RACK_LEAST_WORK], x_forms[RACK_LEAST_FORMS], z_forms[RACK_LEAST_FORMS];
     uint16_t flat[RACK_LEAST_FLAT], ends[RACK_LEAST_ENDS];

@@ -2,14 +2,16 @@
 
 use crate::Checked;
 use judge::codes::{QUBITS, ROWS, WEIGHT};
-use judge::half::{mark, Asked};
+use judge::half::{mark as judged, Asked};
 use judge::judge::{ensure, Judged};
 use judge::stream::{X_ROW, Z_ROW};
+use rack::raw::mark;
 use rack::{lent, Mark, Refusal, Word};
 
 const HEADER: &str = include_str!("../../../crates/rack/include/rack.h");
 const RAW: &str = include_str!("../../../crates/rack/rust/src/raw.rs");
 const PLAIN: &str = include_str!("../../../crates/rack/specs/Plain.antt");
+const MACHINE: &str = include_str!("../../../crates/machine/specs/Machine.antt");
 const TABLE: &str = include_str!("../../../crates/records/specs/Table.antt");
 const LISTS: &str = include_str!("../../../crates/records/specs/Lists.antt");
 
@@ -108,7 +110,7 @@ fn clauses(text: &str, function: &str, prefix: &str) -> Numbers {
     text.lines().filter_map(clause).collect()
 }
 
-/// The numbers that the proved functions hand back, and the least lengths that they ask for.
+/// The numbers that the proved functions hand back, the least lengths that they ask for, the marks.
 fn specs(header: &Numbers) -> Judged {
     let words = clauses(PLAIN, "wordNumber", "WORD_");
     same("wordNumber", &part(header, "WORD_"), words)?;
@@ -123,14 +125,21 @@ fn specs(header: &Numbers) -> Judged {
     lists.iter().zip(&least).try_for_each(|(list, (name, least))| {
         let asked = short.contains(&format!("ltb {list} {least}"));
         ensure(asked, || format!("{name} is {least}, and the specs have {short}"))
-    })
+    })?;
+    [
+        format!("cond (lost q) (cond (fixed q) {} {}) {}", mark::FIXED, mark::OPEN, mark::NOT_LOST),
+        format!("peel checks st p c = settle checks st p {}", mark::PEELED),
+        format!("guess checks st p =\n    settle checks st p {}", mark::GUESSED),
+    ]
+    .iter()
+    .try_for_each(|marked| ensure(MACHINE.contains(marked), || format!("no {marked} in the specs")))
 }
 
 /// Document 01's numbers, as the judge has them.
 fn judge(header: &Numbers) -> Judged {
     let Asked { budget, limit } = Asked::AMPLE;
     let most = [QUBITS, ROWS, WEIGHT, budget, limit];
-    let marks = [mark::NOT_LOST, mark::FIXED, mark::PEELED, mark::GUESSED, mark::OPEN];
+    let marks = [judged::NOT_LOST, judged::FIXED, judged::PEELED, judged::GUESSED, judged::OPEN];
     let kinds = [1, 2, 3, 4, 5, X_ROW, Z_ROW];
     let lists = [16_384, 1_024, 2_048, 8_192, QUBITS, QUBITS, QUBITS];
     for (prefix, known) in [

@@ -65,7 +65,7 @@ impl<'a> Half<'a> {
         self.finished().then(|| (0..self.correction.len()).filter(flipped).collect())
     }
 
-    /// What became of a qubit.
+    /// What became of a qubit of the code.
     pub fn mark(&self, qubit: usize) -> Result<Mark, Error> {
         Mark::try_from(self.marks[qubit])
     }
