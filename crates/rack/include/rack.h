@@ -1,10 +1,10 @@
 /* The loss decoder for a rack's own program, in C or C++. Link with librack.a.
  *
- * A program starts a `struct rack`, loads a code and sends shots. The functions at the end make the records; `rack_take` takes one and hands back the
- * answer. README.md has the tables of records, words and refusals; examples/c/steane.c is a whole program.
+ * A program starts a `struct rack`, loads a code and sends shots: functions below make the records, `rack_take` takes one and hands back the answer.
+ * README.md has the tables of records, words and refusals; examples/c/steane.c is a whole program.
  *
- * Which half reads which rows: the X half holds X errors, found from the Z rows, so `rack_lit_z` is about the X half. The Z half holds Z errors, found
- * from the X rows, so `rack_lit_x` is about the Z half. Nothing can object to the two exchanged.
+ * Which half reads which rows: the X half holds X errors, found from the Z rows, so `rack_lit_z` is about the X half. The Z half holds Z errors,
+ * found from the X rows, so `rack_lit_x` is about the Z half. Nothing can object to the two exchanged.
  */
 #ifndef RACK_H
 #define RACK_H
@@ -78,7 +78,7 @@ enum rack_word {
     RACK_WORD_STOPPED = 5
 };
 
-/* The number of a refusal; 0 where nothing was refused. */
+/* The number of a refusal; 0 where the library refused nothing. */
 enum rack_refusal {
     RACK_REFUSAL_UNKNOWN = 1,
     RACK_REFUSAL_LENGTH = 2,
@@ -137,13 +137,13 @@ struct rack_state rack_fresh(void);
 
 /* One record on lists of the caller's; `rack_take` is this on a `struct rack`.
  *
- * State, `flat`, `ends` and `shot` pass from call to call as the last call left them, also where it refused; nobody else writes them in between. The work
- * list and the six lists of a decode may be others at every call. After RACK_ANSWER_DECODED the first n elements of a half's lists are its marks, its
- * forms (bit 0 the constant, bit k the k-th live guess) and its correction (1 for each qubit to flip, if it is certain or unsure; else all 0).
+ * State, `flat`, `ends` and `shot` pass from call to call as the last call left them, also where it refused; nobody else writes them in between. The
+ * work list and the six lists of a decode may be others at every call. After RACK_ANSWER_DECODED the first n elements of a half's lists are its
+ * marks, its forms (bit 0 the constant, bit k the k-th live guess) and its correction: 1 for each qubit to flip if it is certain or unsure, else all 0.
  *
  * The caller owes: pointers that are not null, aligned for their elements and good for the length given; lists that do not overlap.
- * A list shorter than its least length gets RACK_REFUSAL_SHORT, and no refusal writes to a list. Over a state or lists that were altered between calls
- * the answer means nothing, but every call returns and stays within the lists. */
+ * A list shorter than its least length gets RACK_REFUSAL_SHORT, and no refusal writes to a list. Over a state or lists that were altered between
+ * calls the answer means nothing, but every call returns and stays within the lists. */
 struct rack_reply rack_step(
     struct rack_state state,
     uint16_t *flat, size_t flat_length,

@@ -52,7 +52,7 @@ pub mod word {
     pub const STOPPED: u16 = 5;
 }
 
-/// The number of a refusal; 0 where nothing was refused.
+/// The number of a refusal; 0 where the library refused nothing.
 pub mod refusal {
     pub const UNKNOWN: u16 = 1;
     pub const LENGTH: u16 = 2;
