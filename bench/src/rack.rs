@@ -1,8 +1,8 @@
 //! The library, with lists of its own.
 
-use judge::codes::QUBITS;
 use judge::half::{Counts, Said, Word};
-use library::rack::{answer, fresh, step, Half, Lent, Reply, State, Three, LEAST};
+use rack::lent::{fresh, step, version, Lent, Three};
+use rack::raw::{answer, least, Half, Reply, State, VERSION};
 
 /// One for a whole run: its lists are never given back.
 pub struct Rack {
@@ -15,19 +15,23 @@ fn list<T: Clone + Default>(length: usize) -> &'static mut [T] {
 }
 
 fn three() -> Three<'static> {
-    Three { marks: list(QUBITS), forms: list(QUBITS), correction: list(QUBITS) }
+    let (marks, forms) = (list(least::MARKS), list(least::FORMS));
+    Three { marks, forms, correction: list(least::CORRECTION) }
 }
 
 impl Rack {
     pub fn new() -> Rack {
-        let [flat, ends, shot, work] = LEAST;
-        let (flat, ends) = (list(flat), list(ends));
-        let (shot, work) = (list(shot), list(work));
-        Rack { state: fresh(), lent: Lent { flat, ends, shot, work, x: three(), z: three() } }
+        assert_eq!(version(), VERSION, "the library's version");
+        let (flat, ends) = (list(least::FLAT), list(least::ENDS));
+        let (shot, work) = (list(least::SHOT), list(least::WORK));
+        // The versions are the same.
+        let state = unsafe { fresh() };
+        Rack { state, lent: Lent { flat, ends, shot, work, x: three(), z: three() } }
     }
 
     pub fn take(&mut self, record: &[u8]) -> Reply {
-        let reply = step(self.state, &mut self.lent, record);
+        // `new` compared the versions.
+        let reply = unsafe { step(self.state, &mut self.lent, record) };
         self.state = reply.state;
         reply
     }
@@ -45,7 +49,8 @@ impl Rack {
 }
 
 fn said(half: &Half, correction: &[u8]) -> Option<Said> {
-    let word = *Word::ALL.get(usize::from(half.word).wrapping_sub(1))?;
+    let named = rack::Word::try_from(half.word).ok()?;
+    let word = Word::ALL.into_iter().find(|word| word.name() == named.name())?;
     let [fixed, turns, guesses, live] =
         [half.fixed, half.turns, half.guesses, half.live].map(usize::from);
     let flips = || (0..correction.len()).filter(|&qubit| correction[qubit] == 1).collect();

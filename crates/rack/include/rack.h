@@ -1,58 +1,118 @@
-/* The loss decoder for a rack's own program, in C. Link with librack.a.
+/* The loss decoder for a rack's own program, in C or C++. Link with librack.a.
  *
- * One call takes one record (README.md has the table of records) and hands back the state and the answer. State, `flat`, `ends` and `shot` pass
- * from call to call as the last call left them, also where it refused; nobody else writes them in between. The work list and the six lists
- * of a decode may be others at every call.
+ * A program starts a `struct rack`, loads a code and sends shots: functions below make the records, `rack_take` takes one and hands back the answer.
+ * README.md has the tables of records, words and refusals; examples/c/steane.c is a whole program.
  *
- * The caller owes: pointers that are not null, aligned for their elements and good for the length given; lists that do not overlap.
- * A list shorter than its least length gets refusal 12, and no refusal writes to a list. Over a state or lists that were altered between calls the
- * answer means nothing, but every call returns and stays within the lists.
+ * Which half reads which rows: the X half holds X errors, found from the Z rows, so `rack_lit_z` is about the X half. The Z half holds Z errors,
+ * found from the X rows, so `rack_lit_x` is about the Z half. Nothing can object to the two exchanged.
  */
 #ifndef RACK_H
 #define RACK_H
 
+#include <stdbool.h>
 #include <stddef.h>
 #include <stdint.h>
+#include <string.h>
 
 #ifdef __cplusplus
 extern "C" {
 #endif
 
-/* The least length of each list, in elements. The six lists of a decode need as many elements as the code has qubits, at kind 5 only. */
-enum {
-    RACK_FLAT = 16384,
-    RACK_ENDS = 1024,
-    RACK_SHOT = 2048,
-    RACK_WORK = 8192,
-    RACK_QUBITS = 1024
+#ifdef __GNUC__
+#define RACK_MUST_USE __attribute__((warn_unused_result))
+#else
+#define RACK_MUST_USE
+#endif
+
+/* ---- Numbers ---- */
+
+/* The version of records, lists and structs. */
+#define RACK_VERSION 1
+
+/* The kind of a record, its first byte. A row's is this and as many more as it has qubits. */
+enum rack_kind {
+    RACK_KIND_SIZES = 1,
+    RACK_KIND_LOST = 2,
+    RACK_KIND_LIT_Z = 3,
+    RACK_KIND_LIT_X = 4,
+    RACK_KIND_DECODE = 5,
+    RACK_KIND_X_ROW = 32,
+    RACK_KIND_Z_ROW = 64
+};
+
+/* The most that a record may carry. */
+enum rack_most {
+    RACK_MOST_QUBITS = 1024,
+    RACK_MOST_ROWS = 512,
+    RACK_MOST_WEIGHT = 16,
+    RACK_MOST_BUDGET = 63,
+    RACK_MOST_LIMIT = 65535
+};
+
+/* The least length of each list, in elements. Marks, forms and correction need as many elements as the code has qubits, at a decode only: these
+ * are enough for every code. */
+enum rack_least {
+    RACK_LEAST_FLAT = 16384,
+    RACK_LEAST_ENDS = 1024,
+    RACK_LEAST_SHOT = 2048,
+    RACK_LEAST_WORK = 8192,
+    RACK_LEAST_MARKS = 1024,
+    RACK_LEAST_FORMS = 1024,
+    RACK_LEAST_CORRECTION = 1024
 };
 
 /* The answer to a record. */
-enum { RACK_TAKEN = 0, RACK_COMPLETE = 1, RACK_DECODED = 2, RACK_REFUSED = 3 };
-
-/* The word of a half; 0 where nothing was decoded. */
-enum { RACK_CERTAIN = 1, RACK_UNSURE = 2, RACK_NONE = 3, RACK_SPENT = 4, RACK_STOPPED = 5 };
-
-/* The number of a refusal. */
-enum {
-    RACK_UNKNOWN = 1,
-    RACK_LENGTH = 2,
-    RACK_SIZE = 3,
-    RACK_PLACE = 4,
-    RACK_ROW = 5,
-    RACK_CLASH = 6,
-    RACK_CODELESS = 7,
-    RACK_RANGE = 8,
-    RACK_TWICE = 9,
-    RACK_BUDGET = 10,
-    RACK_SPOILED = 11,
-    RACK_SHORT = 12
+enum rack_answer {
+    RACK_ANSWER_TAKEN = 0,
+    RACK_ANSWER_COMPLETE = 1,
+    RACK_ANSWER_DECODED = 2,
+    RACK_ANSWER_REFUSED = 3
 };
 
-/* A mark of a qubit. */
-enum { RACK_NOT_LOST = 0, RACK_FIXED = 1, RACK_PEELED = 2, RACK_GUESSED = 3, RACK_OPEN = 4 };
+/* The word of a half; 0 where nothing was decoded. */
+enum rack_word {
+    RACK_WORD_CERTAIN = 1,
+    RACK_WORD_UNSURE = 2,
+    RACK_WORD_NONE = 3,
+    RACK_WORD_SPENT = 4,
+    RACK_WORD_STOPPED = 5
+};
 
-/* phase: 0 no code, 1 loading, 2 a complete code. n, x, z: its qubits, X rows and Z rows; rows: those taken so far. */
+/* The number of a refusal; 0 where the library refused nothing. */
+enum rack_refusal {
+    RACK_REFUSAL_UNKNOWN = 1,
+    RACK_REFUSAL_LENGTH = 2,
+    RACK_REFUSAL_SIZE = 3,
+    RACK_REFUSAL_PLACE = 4,
+    RACK_REFUSAL_ROW = 5,
+    RACK_REFUSAL_CLASH = 6,
+    RACK_REFUSAL_CODELESS = 7,
+    RACK_REFUSAL_RANGE = 8,
+    RACK_REFUSAL_TWICE = 9,
+    RACK_REFUSAL_BUDGET = 10,
+    RACK_REFUSAL_SPOILED = 11,
+    RACK_REFUSAL_SHORT = 12
+};
+
+/* The mark of a qubit. */
+enum rack_mark {
+    RACK_MARK_NOT_LOST = 0,
+    RACK_MARK_FIXED = 1,
+    RACK_MARK_PEELED = 2,
+    RACK_MARK_GUESSED = 3,
+    RACK_MARK_OPEN = 4
+};
+
+/* Whether there is a code. */
+enum rack_phase {
+    RACK_PHASE_EMPTY = 0,
+    RACK_PHASE_LOADING = 1,
+    RACK_PHASE_READY = 2
+};
+
+/* ---- The library ---- */
+
+/* n, x, z: the code's qubits, X rows and Z rows; rows: those taken so far. */
 struct rack_state {
     uint8_t phase, clash, spoiled, stale;
     uint16_t n, x, z, rows;
@@ -62,18 +122,28 @@ struct rack_half {
     uint16_t word, fixed, turns, guesses, live;
 };
 
-/* refusal: its number, 0 unless the answer is RACK_REFUSED. x, z: the halves of a report, zeros unless the answer is RACK_DECODED. */
+/* x, z: the halves of a report, zeros unless the answer is RACK_ANSWER_DECODED. */
 struct rack_reply {
     struct rack_state state;
     uint16_t answer, refusal;
     struct rack_half x, z;
 };
 
+/* The archive's version. Where it is not RACK_VERSION, nothing else of the archive may be called. */
+uint16_t rack_version(void);
+
 /* No code and no shot. */
 struct rack_state rack_fresh(void);
 
-/* One record. After RACK_DECODED the first n elements of a half's lists are its marks, its forms (bit 0 the constant, bit k the k-th live guess)
- * and its correction (1 for each qubit to flip). */
+/* One record on lists of the caller's; `rack_take` is this on a `struct rack`.
+ *
+ * State, `flat`, `ends` and `shot` pass from call to call as the last call left them, also where it refused; nobody else writes them in between. The
+ * work list and the six lists of a decode may be others at every call. After RACK_ANSWER_DECODED the first n elements of a half's lists are its
+ * marks, its forms (bit 0 the constant, bit k the k-th live guess) and its correction: 1 for each qubit to flip if it is certain or unsure, else all 0.
+ *
+ * The caller owes: pointers that are not null, aligned for their elements and good for the length given; lists that do not overlap.
+ * A list shorter than its least length gets RACK_REFUSAL_SHORT, and no refusal writes to a list. Over a state or lists that were altered between
+ * calls the answer means nothing, but every call returns and stays within the lists. */
 struct rack_reply rack_step(
     struct rack_state state,
     uint16_t *flat, size_t flat_length,
@@ -88,27 +158,167 @@ struct rack_reply rack_step(
     uint8_t *z_correction, size_t z_correction_length,
     const uint8_t *bytes, size_t bytes_length);
 
-/* A state with lists that are always long enough. */
-struct rack {
-    uint64_t work[RACK_WORK], x_forms[RACK_QUBITS], z_forms[RACK_QUBITS];
-    uint16_t flat[RACK_FLAT], ends[RACK_ENDS];
-    uint8_t shot[RACK_SHOT];
-    uint8_t x_marks[RACK_QUBITS], x_correction[RACK_QUBITS], z_marks[RACK_QUBITS], z_correction[RACK_QUBITS];
-    struct rack_state state;
+/* ---- Records ---- */
+
+struct rack_record {
+    size_t length;
+    uint8_t bytes[1 + 2 * RACK_MOST_WEIGHT];
 };
 
-static inline void rack_start(struct rack *r) {
-    r->state = rack_fresh();
+/* A record without a body. */
+static inline struct rack_record rack_of_kind(uint8_t kind) {
+    struct rack_record record;
+
+    memset(&record, 0, sizeof record);
+    record.bytes[0] = kind;
+    record.length = 1;
+    return record;
 }
 
-static inline struct rack_reply rack_take(struct rack *r, const uint8_t *bytes, size_t length) {
-    struct rack_reply reply = rack_step(
-        r->state, r->flat, RACK_FLAT, r->ends, RACK_ENDS, r->shot, RACK_SHOT, r->work, RACK_WORK,
-        r->x_marks, RACK_QUBITS, r->x_forms, RACK_QUBITS, r->x_correction, RACK_QUBITS,
-        r->z_marks, RACK_QUBITS, r->z_forms, RACK_QUBITS, r->z_correction, RACK_QUBITS,
+/* Adds a number to the body, the low byte first. One that two bytes can't hold is added as 65,535: no size, qubit or row is, so it is refused, and
+ * as a limit it stops no half. */
+static inline void rack_add(struct rack_record *record, size_t number) {
+    size_t held = number < 65535 ? number : 65535;
+
+    record->bytes[record->length] = (uint8_t)(held & 255);
+    record->bytes[record->length + 1] = (uint8_t)(held >> 8);
+    record->length += 2;
+}
+
+static inline struct rack_record rack_of_number(uint8_t kind, size_t number) {
+    struct rack_record record = rack_of_kind(kind);
+
+    rack_add(&record, number);
+    return record;
+}
+
+static inline struct rack_record rack_of_row(uint8_t kind, const uint16_t *qubits, size_t weight) {
+    struct rack_record record = rack_of_kind(kind);
+
+    if (weight <= RACK_MOST_WEIGHT) {
+        record.bytes[0] = (uint8_t)(kind + weight);
+        for (size_t at = 0; at < weight; at++)
+            rack_add(&record, qubits[at]);
+    }
+    return record;
+}
+
+/* A code's qubits, X rows and Z rows: drops any code and shot. All X rows follow, then all Z rows. */
+static inline struct rack_record rack_sizes(size_t n, size_t x, size_t z) {
+    struct rack_record record = rack_of_number(RACK_KIND_SIZES, n);
+
+    rack_add(&record, x);
+    rack_add(&record, z);
+    return record;
+}
+
+/* A row of 1 to 16 qubits, strictly ascending. For none or more the record has no qubits and a kind that is not listed: RACK_REFUSAL_UNKNOWN. */
+static inline struct rack_record rack_x_row(const uint16_t *qubits, size_t weight) {
+    return rack_of_row(RACK_KIND_X_ROW, qubits, weight);
+}
+
+static inline struct rack_record rack_z_row(const uint16_t *qubits, size_t weight) {
+    return rack_of_row(RACK_KIND_Z_ROW, qubits, weight);
+}
+
+/* A qubit was lost. */
+static inline struct rack_record rack_lost(size_t qubit) {
+    return rack_of_number(RACK_KIND_LOST, qubit);
+}
+
+/* A Z row fired: about the X half. */
+static inline struct rack_record rack_lit_z(size_t row) {
+    return rack_of_number(RACK_KIND_LIT_Z, row);
+}
+
+/* An X row fired: about the Z half. */
+static inline struct rack_record rack_lit_x(size_t row) {
+    return rack_of_number(RACK_KIND_LIT_X, row);
+}
+
+/* Reports both halves and ends the shot. RACK_MOST_BUDGET and RACK_MOST_LIMIT unless you know better. A budget that a byte can't hold is handed over as
+ * 255: RACK_REFUSAL_BUDGET. */
+static inline struct rack_record rack_decode(size_t budget, size_t limit) {
+    struct rack_record record = rack_of_kind(RACK_KIND_DECODE);
+
+    record.bytes[record.length++] = (uint8_t)(budget < 255 ? budget : 255);
+    rack_add(&record, limit);
+    return record;
+}
+
+/* ---- A rack with lists that are always long enough ---- */
+
+/* 120 kB: static or from the heap. */
+struct rack {
+    uint64_t work[RACK_LEAST_WORK], x_forms[RACK_LEAST_FORMS], z_forms[RACK_LEAST_FORMS];
+    uint16_t flat[RACK_LEAST_FLAT], ends[RACK_LEAST_ENDS];
+    uint8_t shot[RACK_LEAST_SHOT];
+    uint8_t x_marks[RACK_LEAST_MARKS], x_correction[RACK_LEAST_CORRECTION];
+    uint8_t z_marks[RACK_LEAST_MARKS], z_correction[RACK_LEAST_CORRECTION];
+    struct rack_state state;
+    uint16_t version;
+};
+
+/* A fresh start: no code and no shot. False, and nothing started, if the archive's version is not the header's. */
+RACK_MUST_USE static inline bool rack_start(struct rack *r) {
+    r->version = rack_version();
+    if (r->version != RACK_VERSION)
+        return false;
+    r->state = rack_fresh();
+    return true;
+}
+
+/* Takes a record from elsewhere. Without a start there is no call: the answer is RACK_ANSWER_REFUSED, with refusal 0. */
+static inline struct rack_reply rack_take_bytes(struct rack *r, const uint8_t *bytes, size_t length) {
+    struct rack_reply reply;
+
+    memset(&reply, 0, sizeof reply);
+    reply.answer = RACK_ANSWER_REFUSED;
+    if (r->version != RACK_VERSION)
+        return reply;
+    reply = rack_step(
+        r->state, r->flat, RACK_LEAST_FLAT, r->ends, RACK_LEAST_ENDS, r->shot, RACK_LEAST_SHOT, r->work, RACK_LEAST_WORK,
+        r->x_marks, RACK_LEAST_MARKS, r->x_forms, RACK_LEAST_FORMS, r->x_correction, RACK_LEAST_CORRECTION,
+        r->z_marks, RACK_LEAST_MARKS, r->z_forms, RACK_LEAST_FORMS, r->z_correction, RACK_LEAST_CORRECTION,
         bytes, length);
     r->state = reply.state;
     return reply;
+}
+
+/* Takes a record. After RACK_ANSWER_DECODED the lists of `r` hold marks, forms and corrections of both halves until the next decode. */
+static inline struct rack_reply rack_take(struct rack *r, struct rack_record record) {
+    return rack_take_bytes(r, record.bytes, record.length);
+}
+
+/* ---- Words for people ---- */
+
+static inline const char *rack_word_name(uint16_t word) {
+    switch (word) {
+    case RACK_WORD_CERTAIN: return "certain";
+    case RACK_WORD_UNSURE: return "unsure";
+    case RACK_WORD_NONE: return "none";
+    case RACK_WORD_SPENT: return "spent";
+    case RACK_WORD_STOPPED: return "stopped";
+    default: return "no word";
+    }
+}
+
+static inline const char *rack_refusal_name(uint16_t refusal) {
+    switch (refusal) {
+    case RACK_REFUSAL_UNKNOWN: return "unknown";
+    case RACK_REFUSAL_LENGTH: return "length";
+    case RACK_REFUSAL_SIZE: return "size";
+    case RACK_REFUSAL_PLACE: return "place";
+    case RACK_REFUSAL_ROW: return "row";
+    case RACK_REFUSAL_CLASH: return "clash";
+    case RACK_REFUSAL_CODELESS: return "codeless";
+    case RACK_REFUSAL_RANGE: return "range";
+    case RACK_REFUSAL_TWICE: return "twice";
+    case RACK_REFUSAL_BUDGET: return "budget";
+    case RACK_REFUSAL_SPOILED: return "spoiled";
+    case RACK_REFUSAL_SHORT: return "short";
+    default: return "no refusal";
+    }
 }
 
 #ifdef __cplusplus

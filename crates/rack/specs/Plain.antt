@@ -1,4 +1,5 @@
 -- States and replies as plain numbers (include/rack.h).
+--   version      the version of records, lists and structs that the header has too
 --   stateOf      the state that a state's numbers stand for
 --   plainState   the numbers of a state
 --   plainReply   the numbers of a reply: the answer, the table's number of a refusal, word and counts of the halves of a report
@@ -23,6 +24,9 @@ use Rattle.records.specs.Promise.{Promise}
 use Rattle.rack.specs.declared.RackState.{RackState}
 use Rattle.rack.specs.declared.RackHalf.{RackHalf}
 use Rattle.rack.specs.declared.RackReply.{RackReply}
+
+abbrev pub version : ℕ
+version = 1
 
 ----------------------------------------------------------------------
 -- States

@@ -4,7 +4,7 @@ mod plain;
 ghost use mathlib.Core.Path.{_≡_};
 ghost use Rattle.records.specs.Lists.{held, sixOf, lentOf};
 ghost use Rattle.records.specs.States.{freshState};
-ghost use Rattle.rack.specs.Plain.{plainState, RackPromise};
+ghost use Rattle.rack.specs.Plain.{version, plainState, RackPromise};
 
 // What passes from call to call beside the lists: a fresh start's, or as the last reply has it.
 #[repr(C)]
@@ -37,6 +37,14 @@ pub struct RackReply {
     pub refusal: u16,
     pub x: RackHalf,
     pub z: RackHalf,
+}
+
+// The library's version; the header's RACK_VERSION has to be the same.
+#[no_mangle]
+pub extern "C" fn rack_version() -> u16
+    ensures { λ r. ⌜ r ≡ version ⌝ }
+{
+    records::VERSION
 }
 
 // At a fresh start there is no code and no shot.

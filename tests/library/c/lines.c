@@ -1,26 +1,25 @@
 /* Reads records from standard input and prints the lines of document 01, by the library. */
 #include "rack.h"
 
-#include <stdbool.h>
 #include <stdio.h>
 
 /* The bytes of a record with this kind; of an unknown kind no body is read. */
 static size_t record_length(uint8_t kind) {
-    if (kind == 1)
+    if (kind == RACK_KIND_SIZES)
         return 7;
-    if (2 <= kind && kind <= 4)
+    if (kind == RACK_KIND_LOST || kind == RACK_KIND_LIT_Z || kind == RACK_KIND_LIT_X)
         return 3;
-    if (kind == 5)
+    if (kind == RACK_KIND_DECODE)
         return 4;
-    if (33 <= kind && kind <= 48)
-        return 1 + 2 * (size_t)(kind - 32);
-    if (65 <= kind && kind <= 80)
-        return 1 + 2 * (size_t)(kind - 64);
+    if (RACK_KIND_X_ROW < kind && kind <= RACK_KIND_X_ROW + RACK_MOST_WEIGHT)
+        return 1 + 2 * (size_t)(kind - RACK_KIND_X_ROW);
+    if (RACK_KIND_Z_ROW < kind && kind <= RACK_KIND_Z_ROW + RACK_MOST_WEIGHT)
+        return 1 + 2 * (size_t)(kind - RACK_KIND_Z_ROW);
     return 1;
 }
 
 /* The next record's bytes, fewer where the input ends. */
-static size_t read_record(uint8_t bytes[33]) {
+static size_t read_record(uint8_t bytes[1 + 2 * RACK_MOST_WEIGHT]) {
     size_t got = fread(bytes, 1, 1, stdin);
     if (got == 1)
         got += fread(bytes + 1, 1, record_length(bytes[0]) - 1, stdin);
@@ -29,10 +28,8 @@ static size_t read_record(uint8_t bytes[33]) {
 
 /* A half's word and counts; of a finished half the qubits to flip. */
 static void print_half(char name, struct rack_half half, const uint8_t *correction, size_t n) {
-    static const char *const words[] = {"", "certain", "unsure", "none", "spent", "stopped"};
-
-    printf("%c %s %u %u %u %u", name, words[half.word], half.fixed, half.turns, half.guesses, half.live);
-    if (half.word == RACK_CERTAIN || half.word == RACK_UNSURE) {
+    printf("%c %s %u %u %u %u", name, rack_word_name(half.word), half.fixed, half.turns, half.guesses, half.live);
+    if (half.word == RACK_WORD_CERTAIN || half.word == RACK_WORD_UNSURE) {
         printf(" flip");
         for (size_t qubit = 0; qubit < n; qubit++)
             if (correction[qubit] == 1)
@@ -45,14 +42,14 @@ static void print_answer(const struct rack *rack, struct rack_reply reply, uint8
     struct rack_state state = reply.state;
 
     switch (reply.answer) {
-    case RACK_COMPLETE:
+    case RACK_ANSWER_COMPLETE:
         printf("code %u %u %u\n", state.n, state.x, state.z);
         break;
-    case RACK_DECODED:
+    case RACK_ANSWER_DECODED:
         print_half('X', reply.x, rack->x_correction, state.n);
         print_half('Z', reply.z, rack->z_correction, state.n);
         break;
-    case RACK_REFUSED:
+    case RACK_ANSWER_REFUSED:
         printf("refused %u %u\n", reply.refusal, kind);
         break;
     }
@@ -60,19 +57,22 @@ static void print_answer(const struct rack *rack, struct rack_reply reply, uint8
 
 int main(void) {
     static struct rack rack;
-    uint8_t bytes[33];
+    uint8_t bytes[1 + 2 * RACK_MOST_WEIGHT];
     size_t length;
     bool more = true;
 
     /* Each line goes out before more is read. */
     setvbuf(stdout, NULL, _IOLBF, BUFSIZ);
-    rack_start(&rack);
+    if (!rack_start(&rack)) {
+        fprintf(stderr, "lines: header and archive are of versions %d and %d\n", RACK_VERSION, rack_version());
+        return 1;
+    }
     while (more && (length = read_record(bytes)) > 0) {
-        struct rack_reply reply = rack_take(&rack, bytes, length);
+        struct rack_reply reply = rack_take_bytes(&rack, bytes, length);
 
         print_answer(&rack, reply, bytes[0]);
         /* What follows an unknown or cut-off record can't be read. */
-        more = reply.refusal != RACK_UNKNOWN && reply.refusal != RACK_LENGTH;
+        more = reply.refusal != RACK_REFUSAL_UNKNOWN && reply.refusal != RACK_REFUSAL_LENGTH;
     }
     return 0;
 }

@@ -2,10 +2,8 @@
  * and one of them too short. */
 #include "rack.h"
 
-#include <stdbool.h>
 #include <stdio.h>
 #include <stdlib.h>
-#include <string.h>
 
 enum { FLAT, ENDS, SHOT, WORK, X_MARKS, X_FORMS, X_CORRECTION, Z_MARKS, Z_FORMS, Z_CORRECTION, LISTS };
 enum { N = 4, SHOT_BEGINS = 3, DECODE = 6, RECORDS = 9 };
@@ -13,7 +11,7 @@ enum { N = 4, SHOT_BEGINS = 3, DECODE = 6, RECORDS = 9 };
 static const char *const names[LISTS] = {
     "flat", "ends", "shot", "work", "x_marks", "x_forms", "x_correction", "z_marks", "z_forms", "z_correction"};
 static const size_t widths[LISTS] = {2, 2, 1, 8, 1, 8, 1, 1, 8, 1};
-static const size_t least[LISTS] = {RACK_FLAT, RACK_ENDS, RACK_SHOT, RACK_WORK, N, N, N, N, N, N};
+static const size_t least[LISTS] = {RACK_LEAST_FLAT, RACK_LEAST_ENDS, RACK_LEAST_SHOT, RACK_LEAST_WORK, N, N, N, N, N, N};
 
 /* The records and their answers. */
 static const struct {
@@ -21,15 +19,15 @@ static const struct {
     uint8_t bytes[9];
     uint16_t answer, refusal;
 } records[RECORDS] = {
-    {7, {1, 4, 0, 1, 0, 1, 0}, RACK_TAKEN, 0},
-    {9, {36, 0, 0, 1, 0, 2, 0, 3, 0}, RACK_TAKEN, 0},
-    {9, {68, 0, 0, 1, 0, 2, 0, 3, 0}, RACK_COMPLETE, 0},
-    {3, {2, 0, 0}, RACK_TAKEN, 0},
-    {3, {2, 1, 0}, RACK_TAKEN, 0},
-    {3, {3, 0, 0}, RACK_TAKEN, 0},
-    {4, {5, 1, 100, 0}, RACK_DECODED, 0},
-    {3, {2, 4, 0}, RACK_REFUSED, RACK_RANGE},
-    {4, {5, 1, 100, 0}, RACK_REFUSED, RACK_SPOILED},
+    {7, {1, 4, 0, 1, 0, 1, 0}, RACK_ANSWER_TAKEN, 0},
+    {9, {36, 0, 0, 1, 0, 2, 0, 3, 0}, RACK_ANSWER_TAKEN, 0},
+    {9, {68, 0, 0, 1, 0, 2, 0, 3, 0}, RACK_ANSWER_COMPLETE, 0},
+    {3, {2, 0, 0}, RACK_ANSWER_TAKEN, 0},
+    {3, {2, 1, 0}, RACK_ANSWER_TAKEN, 0},
+    {3, {3, 0, 0}, RACK_ANSWER_TAKEN, 0},
+    {4, {5, 1, 100, 0}, RACK_ANSWER_DECODED, 0},
+    {3, {2, 4, 0}, RACK_ANSWER_REFUSED, RACK_REFUSAL_RANGE},
+    {4, {5, 1, 100, 0}, RACK_ANSWER_REFUSED, RACK_REFUSAL_SPOILED},
 };
 
 struct lent {
@@ -120,8 +118,8 @@ static struct rack_reply step(struct lent *lent, int record) {
 
 /* Both halves unsure 0 2 1 1; only the X half's row is lit. */
 static void expect_decoded(const struct lent *lent, const struct rack_reply *reply) {
-    static const struct rack_half half = {RACK_UNSURE, 0, 2, 1, 1};
-    static const uint8_t marks[N] = {RACK_GUESSED, RACK_PEELED, RACK_NOT_LOST, RACK_NOT_LOST};
+    static const struct rack_half half = {RACK_WORD_UNSURE, 0, 2, 1, 1};
+    static const uint8_t marks[N] = {RACK_MARK_GUESSED, RACK_MARK_PEELED, RACK_MARK_NOT_LOST, RACK_MARK_NOT_LOST};
     static const uint64_t x_forms[N] = {2, 3, 0, 0}, z_forms[N] = {2, 2, 0, 0};
     static const uint8_t x_flips[N] = {0, 1, 0, 0}, z_flips[N] = {0, 0, 0, 0};
     const void *lists[] = {marks, x_forms, x_flips, marks, z_forms, z_flips};
@@ -139,7 +137,7 @@ static void run(struct lent *lent, int first, int last) {
 
         expect(reply.answer == records[record].answer, record, "the answer");
         expect(reply.refusal == records[record].refusal, record, "the refusal");
-        if (reply.answer == RACK_DECODED)
+        if (reply.answer == RACK_ANSWER_DECODED)
             expect_decoded(lent, &reply);
     }
 }
@@ -154,7 +152,7 @@ static void one_short(int list, size_t length, int record) {
     run(&lent, 0, record);
     cut = copy(&lent, list, length);
     reply = step(&cut, record);
-    expect(reply.refusal == (counts ? RACK_SHORT : 0), record, "the refusal of a short list");
+    expect(reply.refusal == (counts ? RACK_REFUSAL_SHORT : 0), record, "the refusal of a short list");
     if (counts) {
         expect(same(&cut, &lent), record, "as it was");
         lent.state = cut.state;

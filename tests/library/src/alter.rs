@@ -1,9 +1,9 @@
 //! Ways to overwrite the lists of code and shot, and the state.
 
 use crate::lengths::NAMES;
-use crate::rack::State;
 use crate::watch;
 use judge::random::Random;
+use rack::raw::State;
 
 /// Overwrites a list's bytes, or a part of them.
 pub fn list(random: &mut Random, list: usize, bytes: &mut [u8]) {

@@ -2,7 +2,6 @@
 
 use crate::alter;
 use crate::lengths::Lengths;
-use crate::rack::answer;
 use crate::session::Session;
 use crate::{watch, Checked};
 use judge::codes::{QUBITS, ROWS, WEIGHT};
@@ -13,6 +12,7 @@ use judge::judge::ensure;
 use judge::random::Random;
 use judge::records as made;
 use judge::stream::{Record, X_ROW, Z_ROW};
+use rack::raw::{answer, phase};
 
 const SMALL: [Family; 4] = [Family::Bench, Family::Pair, Family::Surface, Family::Joined];
 
@@ -43,7 +43,7 @@ fn run(session: &mut Session, random: &mut Random) -> Result<usize, String> {
     let mut decodes = 0;
     for record in records(random, 4, mix) {
         let record = if random.percent(other) { any_record(random) } else { record };
-        let ready = caller.state.phase == 2;
+        let ready = caller.state.phase == phase::READY;
         for (list, bytes) in caller.held.iter_mut().enumerate() {
             if random.percent(if ready { lists } else { lists / 4 }) {
                 alter::list(random, list, bytes);

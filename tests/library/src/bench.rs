@@ -2,13 +2,13 @@
 
 use crate::caller::Caller;
 use crate::lengths::Lengths;
-use crate::rack::{answer, Reply};
 use crate::session::Session;
 use crate::{watch, Checked};
 use judge::bench::{all, Bench};
 use judge::judge::{ensure, Judged};
 use judge::random::Random;
 use judge::shots::{say, NAMES};
+use rack::raw::{answer, Reply};
 
 pub fn bench(seed: u64, _shots: usize) -> Checked {
     let mut session = Session::new(Random::new(seed).word(), 1);

@@ -3,12 +3,13 @@
 
 use crate::guard::{Region, Side};
 use crate::lengths::{Lengths, HELD, NAMES, WIDTHS};
-use crate::rack::{self, Lent, Reply, State, Three};
 use crate::tally::Tally;
 use crate::watch;
 use judge::codes::QUBITS;
 use judge::judge::ensure;
 use judge::random::Random;
+use rack::lent::{self, Lent, Three};
+use rack::raw::{self, answer, kind, phase, Reply, State};
 use std::ops::Range;
 
 pub struct Caller {
@@ -27,6 +28,7 @@ pub struct Caller {
 impl Caller {
     /// With room for lists of so many times their least length and somewhat more.
     pub fn new(seed: u64, times: usize) -> Caller {
+        assert_eq!(lent::version(), raw::VERSION, "the library's version");
         let mut random = Random::new(seed);
         let least = Lengths::least(QUBITS).0;
         let room: [usize; NAMES.len()] =
@@ -36,7 +38,7 @@ impl Caller {
             garbage: garbage(&mut random, most),
             random,
             tally: Tally::default(),
-            state: rack::fresh(),
+            state: fresh(),
             held: std::array::from_fn(|list| vec![0; room[list]]),
             lent: std::array::from_fn(|_| 0..0),
             lists: room.map(Region::new),
@@ -47,7 +49,7 @@ impl Caller {
     /// A fresh start on the lists as they are.
     pub fn begin(&mut self) {
         watch::tell(|| "a fresh start".into());
-        self.state = rack::fresh();
+        self.state = fresh();
     }
 
     /// A fresh start with anything in the lists.
@@ -66,7 +68,7 @@ impl Caller {
 
     /// How many elements the record needs in the six lists.
     pub fn needed(&self, record: &[u8]) -> usize {
-        let decodes = record.first() == Some(&5) && self.state.phase == 2;
+        let decodes = record.first() == Some(&kind::DECODE) && self.state.phase == phase::READY;
         if decodes {
             self.state.n.into()
         } else {
@@ -86,10 +88,12 @@ impl Caller {
         }
         self.record.place(record, self.random.pick(&[Side::Start, Side::End]));
         let mut lent = lend(&mut self.lists);
-        let step = |bytes: &[u8]| watch::call(|| rack::step(self.state, &mut lent, bytes));
+        // `new` compared the versions.
+        let mut call = |bytes: &[u8]| unsafe { lent::step(self.state, &mut lent, bytes) };
+        let step = |bytes: &[u8]| watch::call(|| call(bytes));
         let reply = self.record.locked(step);
         self.state = reply.state;
-        if reply.answer == rack::answer::REFUSED {
+        if reply.answer == answer::REFUSED {
             self.unwritten()?;
         }
         for (held, list) in self.held.iter_mut().zip(&self.lists) {
@@ -120,6 +124,12 @@ impl Caller {
     pub fn after(&self, list: usize) -> &[u8] {
         self.lists[list].list()
     }
+}
+
+/// No code and no shot.
+fn fresh() -> State {
+    // `Caller::new` compares the versions first.
+    unsafe { lent::fresh() }
 }
 
 /// Zeros, ones and random bytes, from which lists of up to so many bytes are filled.

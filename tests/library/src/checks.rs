@@ -1,14 +1,19 @@
 //! The checks by name. Each runs in a process of its own, so that its death is a failure too.
 
 use crate::watch::CASE;
-use crate::{agrees, altered, bench, garbage, large, larger, short, Checked};
+use crate::{
+    agrees, altered, bench, garbage, large, larger, makers, numbers, owned, short, Checked,
+};
 use std::process::{Command, Output};
 
 /// Runs with a seed and a number of shots.
 type Check = fn(u64, usize) -> Checked;
 
 /// Each check with its share of the shots, in percent.
-pub const ALL: [(&str, Check, usize); 9] = [
+pub const ALL: [(&str, Check, usize); 12] = [
+    ("numbers", numbers::numbers, 100),
+    ("makers", makers::makers, 100),
+    ("owned", owned::owned, 100),
     ("bench", bench::bench, 100),
     ("agrees", agrees::agrees, 150),
     ("large", large::large, 100),

@@ -1,8 +1,8 @@
 //! How long each of the ten lists is in a call.
 
-use crate::rack::LEAST;
 use judge::random::Random;
 use judge::stream::Lent;
+use rack::raw::least;
 
 /// The lists in the order of a call: code and shot, work, and a decode's six.
 pub const NAMES: [&str; 10] = [
@@ -25,6 +25,9 @@ pub const WIDTHS: [usize; 10] = [2, 2, 1, 8, 1, 8, 1, 1, 8, 1];
 pub const HELD: usize = 3;
 pub const WORK: usize = 3;
 pub const SIX: usize = 4;
+
+/// The least lengths of `flat`, `ends`, `shot` and `work`.
+pub const LEAST: [usize; SIX] = [least::FLAT, least::ENDS, least::SHOT, least::WORK];
 
 /// How many times its least length a list can have.
 pub const TIMES: usize = 4;

@@ -1,13 +1,13 @@
 //! What the model makes of each call: the reply, and the lists of code and shot by docs/LISTS.md.
 
 use crate::lengths::{Lengths, HELD};
-use crate::rack::{answer, Reply, State};
 use crate::report::half;
 use judge::half::Report;
 use judge::machine;
 use judge::shot::Decode;
 use judge::stream::{Answer, Model};
 use judge::wrong::Wrong;
+use rack::raw::{answer, phase, Reply, State};
 
 const FLAT: usize = 0;
 const ENDS: usize = 1;
@@ -32,7 +32,7 @@ pub struct Mirror {
 pub fn told(mut reply: Reply) -> Reply {
     let State { phase, n, x, z, rows, .. } = reply.state;
     let code = State { n, x, z, rows, ..State::default() };
-    reply.state = State { phase, ..if phase == 0 { State::default() } else { code } };
+    reply.state = State { phase, ..if phase == phase::EMPTY { State::default() } else { code } };
     reply
 }
 
@@ -71,9 +71,9 @@ impl Mirror {
 
     fn phase(&self) -> u8 {
         match (self.model.code(), self.model.awaited()) {
-            (Some(_), _) => 2,
-            (None, Some(_)) => 1,
-            (None, None) => 0,
+            (Some(_), _) => phase::READY,
+            (None, Some(_)) => phase::LOADING,
+            (None, None) => phase::EMPTY,
         }
     }
 

@@ -2,17 +2,21 @@
 
 use crate::caller::Caller;
 use crate::lengths::{Lengths, SIX};
-use crate::rack::{answer, Half, Reply};
 use judge::half::{Counts, Report, Word};
 use judge::stream::Record;
+use rack::raw::{answer, Half, Reply};
 
 /// Word and counts as the header has them.
 pub fn half(report: &Report) -> Half {
-    let word = 1 + Word::ALL.iter().position(|&word| word == report.word).expect("a word");
-    let counts = report.counts;
-    let numbers = [word, counts.fixed, counts.turns, counts.guesses, counts.live];
-    let [word, fixed, turns, guesses, live] = numbers.map(|number| number as u16);
-    Half { word, fixed, turns, guesses, live }
+    let Counts { fixed, turns, guesses, live } = report.counts;
+    let [fixed, turns, guesses, live] = [fixed, turns, guesses, live].map(|count| count as u16);
+    Half { word: number(report.word), fixed, turns, guesses, live }
+}
+
+/// The header's number of a word, by the word's name.
+pub fn number(word: Word) -> u16 {
+    let named = rack::Word::ALL.iter().find(|named| named.name() == word.name());
+    named.expect("the judge's words are the header's").number()
 }
 
 /// The bytes of marks, forms and correction.
@@ -45,7 +49,10 @@ impl Caller {
                 [half.fixed, half.turns, half.guesses, half.live].map(usize::from);
             let forms = self.after(first + 1)[..8 * n].chunks_exact(8);
             Report {
-                word: Word::ALL[usize::from(half.word) - 1],
+                word: Word::ALL
+                    .into_iter()
+                    .find(|&word| number(word) == half.word)
+                    .expect("a word"),
                 counts: Counts { fixed, turns, guesses, live },
                 marks: self.after(first)[..n].into(),
                 forms: forms.map(|form| u64::from_ne_bytes(form.try_into().expect("8"))).collect(),

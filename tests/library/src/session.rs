@@ -1,13 +1,13 @@
 //! A caller with the model beside it: every call is compared and every report judged.
 
 use crate::caller::Caller;
-use crate::lengths::{Lengths, HELD, NAMES, SIX, WIDTHS, WORK};
+use crate::lengths::{Lengths, HELD, LEAST, NAMES, SIX, WIDTHS, WORK};
 use crate::mirror::{told, Decoded, Mirror};
-use crate::rack::{Reply, LEAST};
 use crate::report;
 use judge::judge::{ensure, verdict, Judged};
 use judge::random::Random;
 use judge::stream::Record;
+use rack::raw::Reply;
 
 pub struct Session {
     pub caller: Caller,

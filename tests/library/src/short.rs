@@ -12,8 +12,7 @@ use judge::losses;
 use judge::random::Random;
 use judge::records;
 use judge::stream::{Record, X_ROW, Z_ROW};
-
-const SHORT: u16 = 12;
+use rack::raw::refusal::SHORT;
 
 /// Each list short at each kind of record, for some codes.
 pub fn one_short(seed: u64, shots: usize) -> Checked {

@@ -1,12 +1,13 @@
 //! How often each answer was met.
 
-use crate::rack::{answer, Reply};
 use crate::Checked;
 use judge::half::Word;
 use judge::judge::{ensure, Judged};
+use rack::raw::{answer, phase, Reply};
+use rack::Refusal;
 use std::fmt::{self, Display, Formatter};
 
-const REFUSALS: usize = 12;
+const REFUSALS: usize = Refusal::ALL.len();
 
 #[derive(Default)]
 pub struct Tally {
@@ -71,7 +72,7 @@ fn allowed(reply: &Reply) -> bool {
     let state = reply.state;
     let flags = [state.clash, state.spoiled, state.stale].iter().all(|&flag| flag <= 1);
     let answered = reply.answer <= answer::REFUSED && refusal.contains(&reply.refusal.into());
-    answered && halves && flags && state.phase <= 2
+    answered && halves && flags && state.phase <= phase::READY
 }
 
 impl Display for Tally {

@@ -1,0 +1,67 @@
+//! One call on lists that the caller owns.
+
+use crate::raw::{self, Reply, State};
+
+/// A half's three lists.
+pub struct Three<'a> {
+    pub marks: &'a mut [u8],
+    pub forms: &'a mut [u64],
+    pub correction: &'a mut [u8],
+}
+
+/// All that a call is lent.
+pub struct Lent<'a> {
+    pub flat: &'a mut [u16],
+    pub ends: &'a mut [u16],
+    pub shot: &'a mut [u8],
+    pub work: &'a mut [u64],
+    pub x: Three<'a>,
+    pub z: Three<'a>,
+}
+
+/// The library's version.
+pub fn version() -> u16 {
+    // Of every version the same: it takes nothing and hands back a number.
+    unsafe { raw::rack_version() }
+}
+
+/// No code and no shot.
+///
+/// # Safety
+/// The library's version is `raw::VERSION`.
+pub unsafe fn fresh() -> State {
+    raw::rack_fresh()
+}
+
+/// One record. State, `flat`, `ends` and `shot` are as the last call left them.
+///
+/// # Safety
+/// The library's version is `raw::VERSION`. The lists are slices, so they are aligned, good for
+/// their lengths and apart.
+pub unsafe fn step(state: State, lent: &mut Lent, bytes: &[u8]) -> Reply {
+    raw::rack_step(
+        state,
+        lent.flat.as_mut_ptr(),
+        lent.flat.len(),
+        lent.ends.as_mut_ptr(),
+        lent.ends.len(),
+        lent.shot.as_mut_ptr(),
+        lent.shot.len(),
+        lent.work.as_mut_ptr(),
+        lent.work.len(),
+        lent.x.marks.as_mut_ptr(),
+        lent.x.marks.len(),
+        lent.x.forms.as_mut_ptr(),
+        lent.x.forms.len(),
+        lent.x.correction.as_mut_ptr(),
+        lent.x.correction.len(),
+        lent.z.marks.as_mut_ptr(),
+        lent.z.marks.len(),
+        lent.z.forms.as_mut_ptr(),
+        lent.z.forms.len(),
+        lent.z.correction.as_mut_ptr(),
+        lent.z.correction.len(),
+        bytes.as_ptr(),
+        bytes.len(),
+    )
+}

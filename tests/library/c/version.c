@@ -1,0 +1,16 @@
+/* Starts a rack, and says what comes of it: with an archive of another version there is no start, and a record is refused without a call. */
+#include "rack.h"
+
+#include <stdio.h>
+
+int main(void) {
+    static struct rack rack;
+    bool before = rack_take(&rack, rack_sizes(4, 0, 0)).answer == RACK_ANSWER_REFUSED;
+    bool started = rack_start(&rack);
+    struct rack_reply reply = rack_take(&rack, rack_sizes(4, 0, 0));
+
+    printf("before: %s\n", before ? "refused" : "taken");
+    printf("started: %s\n", started ? "yes" : "no");
+    printf("after: answer %d, refusal %d\n", reply.answer, reply.refusal);
+    return 0;
+}

@@ -1,0 +1,100 @@
+//! The Rust crate's rack, with lists of its own, against the model.
+
+use crate::{watch, Checked};
+use judge::generate::{records, Mix};
+use judge::half::Report;
+use judge::judge::{ensure, Judged};
+use judge::known::seven;
+use judge::machine;
+use judge::random::Random;
+use judge::stream::{self, Lent, Model, Record};
+use judge::wrong::Wrong;
+use rack::{Answer, Error, Half, Rack, Refusal, Sizes};
+
+/// Streams of all families with every refusal but that of short lists: each answer is the model's.
+pub fn owned(seed: u64, shots: usize) -> Checked {
+    let mut random = Random::new(seed);
+    let mut calls = 0;
+    for _ in 0..8 {
+        let mix = Mix { trouble: 20, wild: true, family: None };
+        let stream = records(&mut random, shots.div_ceil(8), mix);
+        watch::case();
+        let mut rack = Rack::new().map_err(|error| error.to_string())?;
+        let mut model = Model::new(Wrong::Nothing);
+        for record in &stream {
+            watch::record(record, String::new);
+            step(&mut rack, &mut model, record)?;
+            calls += 1;
+        }
+        odd_rows(&mut rack)?;
+        halves(&mut rack).map_err(|error| error.to_string())??;
+    }
+    Ok(format!("{calls} calls"))
+}
+
+fn step(rack: &mut Rack, model: &mut Model, record: &Record) -> Judged {
+    let expected = model.step(record, Lent::AMPLE);
+    let answer = rack.record(record);
+    let same = match (&answer, &expected) {
+        (Ok(Answer::Taken), stream::Answer::Taken) => true,
+        (Ok(Answer::Complete(Sizes { n, x, z })), stream::Answer::Complete(code)) => {
+            [*n, *x, *z].map(usize::from) == [code.n, code.x.len(), code.z.len()]
+        }
+        (Err(Error::Refused(why)), stream::Answer::Refused { number, .. }) => {
+            why.number() == u16::from(*number)
+        }
+        (Ok(Answer::Decoded(report)), stream::Answer::Decode(decode)) => {
+            let halves = decode.halves().map(|half| machine::decode(&half, decode.asked));
+            shows(&report.x, &halves[0]) && shows(&report.z, &halves[1])
+        }
+        _ => false,
+    };
+    ensure(same, || format!("{answer:?}"))
+}
+
+/// Word, counts, lists, and what is made of them.
+fn shows(half: &Half, report: &Report) -> bool {
+    let said = report.said();
+    let counts = [half.fixed, half.turns, half.guesses, half.live].map(usize::from);
+    let expected = said.counts;
+    let marks = (0..half.marks.len()).map(|qubit| half.mark(qubit).map(|mark| mark.number()));
+    half.word.name() == report.word.name()
+        && counts == [expected.fixed, expected.turns, expected.guesses, expected.live]
+        && marks.collect::<Result<Vec<u8>, Error>>().as_ref() == Ok(&report.marks)
+        && half.forms == report.forms
+        && half.correction == report.correction
+        && half.flips() == said.flips
+}
+
+/// Rows of no qubits or too many are refused as unknown, and loading goes on.
+fn odd_rows(rack: &mut Rack) -> Judged {
+    let unknown = Err(Error::Refused(Refusal::Unknown));
+    let sizes = rack.sizes(20, 1, 1);
+    ensure(sizes == Ok(Answer::Taken), || format!("sizes: {sizes:?}"))?;
+    for weight in [0, 17, 32, 33, 64, 224, 256, 70_000] {
+        let row = vec![0; weight];
+        let (x, z) = (rack.x_row(&row) == unknown, rack.z_row(&row) == unknown);
+        ensure(x && z, || format!("a row of {weight} qubits was taken"))?;
+    }
+    let rows = [rack.x_row(&[0, 1]).is_ok(), rack.z_row(&[0, 1]).is_ok()];
+    ensure(rows == [true, true], || "loading did not go on".into())
+}
+
+/// Lit Z rows are about the X half, lit X rows about the Z half: document 01's P10, both ways.
+fn halves(rack: &mut Rack) -> Result<Judged, Error> {
+    let code = seven();
+    let row = |row: &Vec<usize>| -> Vec<u16> { row.iter().map(|&qubit| qubit as u16).collect() };
+    rack.sizes(code.n, code.x.len(), code.z.len())?;
+    code.x.iter().try_for_each(|x| rack.x_row(&row(x)).map(drop))?;
+    code.z.iter().try_for_each(|z| rack.z_row(&row(z)).map(drop))?;
+    let mut shot = |light: fn(&mut Rack, usize) -> Result<Answer<'_>, Error>| {
+        [0, 2, 4, 6].into_iter().try_for_each(|qubit| rack.lost(qubit).map(drop))?;
+        (0..3).try_for_each(|row| light(rack, row).map(drop))?;
+        let report = rack.decode(1, 100)?;
+        Ok([report.x.flips(), report.z.flips()])
+    };
+    let (lit, unlit) = (Some(vec![6]), Some(vec![]));
+    let flips = [shot(Rack::lit_z)?, shot(Rack::lit_x)?];
+    let expected = [[lit.clone(), unlit.clone()], [unlit, lit]];
+    Ok(ensure(flips == expected, || format!("{flips:?} should be {expected:?}")))
+}
