@@ -1,5 +1,5 @@
 -- Two calls in a row from a fresh start are a run, so the claim tells the second.
-use mathlib.Core.Path.{_≡_, refl, sym, ap, _∙_, fun-ext}
+use mathlib.Core.Path.{_≡_, refl, sym, ap, _∙_, subst, fun-ext}
 use mathlib.Core.Bool.{true}
 use mathlib.Core.Option.{Option, none, some}
 use mathlib.Core.List.{List, [], _∷_}
@@ -16,9 +16,9 @@ use Rattle.records.specs.Table.{takes}
 use Rattle.records.specs.Lists.{Lent, shortSix}
 use Rattle.records.specs.Promise.{completed, answerOf, KeptLengths, Promise}
 use Rattle.records.specs.States.{freshState}
-use Rattle.claim.specs.Calls.{Step, step, ended, call, past, Place}
+use Rattle.claim.specs.Calls.{Step, step, Run, ended, call, past, Place}
 use Rattle.claim.proofs.Claim.{claim}
-use Rattle.caller.specs.TwoRecords.{shortsOf, refusalOf, afterFirst, answerToSecond, Decode, TwoRecords}
+use Rattle.caller.specs.TwoRecords.{shortsOf, refusalOf, afterFirst, answerToSecond, Decode, twoCalls, TwoRecords}
 
 -- A call leaves the six lists as short as they were.
 six-same : (old new : Lent) → KeptLengths old new → shortSix (new .six) ≡ shortSix (old .six)
@@ -58,6 +58,9 @@ two-records st first second l₀ l₁ l₂ r₁ r₂ h p₁ p₂ =
     let answer : r₂ .answer ≡ answerToSecond (shortsOf l₀) first second = rw (p₁ .lengths .work, six-same l₀ l₁ (p₁ .lengths)) at (claim .told k₂ place .answer) in
     let a : History = afterFirst (shortsOf l₀) first in
     record {
+      replied = r₁;
+      left = l₁;
+      run = subst (λ (s : State). Run s (l₀ .lists) (twoCalls first second l₀ r₁ l₁ r₂ l₂)) h (place .run);
       answer = answer;
       right = λ d e.
           let z = decode-of (refusalOf (shortsOf l₀) second a) (recordOf second) a d (sym answer ∙ e) in

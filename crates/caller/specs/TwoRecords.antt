@@ -3,11 +3,13 @@
 --   afterFirst      the code and shot that the first record makes
 --   answerToSecond  the answer to the second record
 --   Right           both halves of a report are right (demands 2 and 3)
---   TwoRecords      what the two records say, and nothing else but lists too short, decides the answer; and a report is right
+--   twoCalls        the two calls, the second lent what the first left
+--   TwoRecords      what the two records say, and nothing else but lists too short, decides the answer; a report is right; and the two calls are a run,
+--                   so that the claim tells every lent element
 use mathlib.Core.Path.{_≡_}
 use mathlib.Core.Bool.{Bool}
 use mathlib.Core.Option.{Option}
-use mathlib.Core.List.{List}
+use mathlib.Core.List.{List, [], _∷_}
 use Prim.Native.Nat.{ℕ}
 use lib.ListN.{length}
 use Rattle.machine.specs.Lists.{seen}
@@ -21,6 +23,8 @@ use Rattle.records.specs.History.{Code, Shot, History, empty, ready, half}
 use Rattle.records.specs.Table.{refusal, afterwards}
 use Rattle.records.specs.Lists.{Six, Lent, shortLists, shortSix}
 use Rattle.records.specs.Promise.{answerOf}
+use Rattle.records.specs.States.{freshState}
+use Rattle.claim.specs.Calls.{Call, step, Run}
 use Rattle.claim.specs.Claim.{reportFor, listsFor, HalfRight}
 
 -- A list of code, shot or work; one of the six lists of a decode of n qubits.
@@ -56,8 +60,17 @@ abbrev pub Right : {a : History} {r : Record} → Decode a r → Report → Six 
 Right k d six =
     (p : Pauli) → HalfRight (half p (k .code) (k .shot)) (k .budget) (k .limit) (seen (k .code .n) (reportFor p d) (listsFor p six))
 
+abbrev pub twoCalls : List ℕ → List ℕ → Lent → Reply → Lent → Reply → Lent → List Call
+twoCalls first second old r left r′ new =
+    step (record { bytes = first; work = old .work; six = old .six; reply = r; left = left })
+    ∷ step (record { bytes = second; work = left .work; six = left .six; reply = r′; left = new })
+    ∷ []
+
 -- Of the lists at entry and at exit.
 pub record TwoRecords (first second : List ℕ) (old new : Lent) (r : Reply) : Type 0 where
+  pub replied : Reply
+  pub left : Lent
+  pub run : Run freshState (old .lists) (twoCalls first second old replied left r new)
   pub answer : r .answer ≡ answerToSecond (shortsOf old) first second
   pub right : (d : Report) → r .answer ≡ Decoded d
       → (k : Decode (afterFirst (shortsOf old) first) (recordOf second)) × Right k d (new .six)
