@@ -10,12 +10,13 @@ use lib.Dec.{eqb}
 use lib.ListN.{length, getD}
 use Rattle.binary.specs.Meaning.{Check, has}
 use Rattle.code.specs.Lists.{rowAt}
-use Rattle.turns.specs.declared.Taken.{Taken}
-use Rattle.turns.specs.declared.Taken.the-variants.{Failed, Live}
+use Rattle.forms.specs.declared.Taken.{Taken}
+use Rattle.forms.specs.declared.Taken.the-variants.{Failed, Live}
 use Rattle.machine.specs.Machine.{Form, Forms, isOpen, part, empty?, bind, takeUp, takeIf, takeUpAll}
 use Rattle.machine.specs.Lists.{view}
-use Rattle.turns.specs.Lists.{withLive, checkAt, checksFrom, Topped, TakenAs, TookUp}
-use Rattle.turns.specs.Sides.{check, closedAt?, takeIfClosed}
+use Rattle.forms.specs.Forms.{withLive, Topped, TakenAs, TookUp, TakesUp}
+use Rattle.turns.specs.Lists.{checkAt, checksFrom, closedAt?, takeIfClosed}
+use Rattle.forms.specs.Sides.{check}
 
 ----------------------------------------------------------------------
 -- The answer and the machine
@@ -40,10 +41,10 @@ taken-some n forms (some fs) live e =
 -- The row that was read, and what was told of it.
 module _ (n : ℕ) (flat ends lit marks : List ℕ) (r : ℕ) (all : Bool) (p live : ℕ) (forms row : List ℕ) (is : row ≡ rowAt flat ends r) (told : Bool)
     (tells : told ≡ ((all || has row p) && empty? (part (isOpen (view n marks)) row))) where
-  pub row-taken : told ≡ true → (t : Taken) (forms′ : List ℕ) → TookUp n (takeUp (withLive n forms live) (check (eqb (getD lit r 0) 1) row)) t forms forms′
+  pub row-taken : told ≡ true → (t : Taken) (forms′ : List ℕ) → TakesUp n (check (eqb (getD lit r 0) 1) row) live t forms forms′ → n ≤ length forms → Topped n live forms
       → TookUp n (takeIfClosed n marks all p (withLive n forms live) (checkAt flat ends lit r)) t forms forms′
   unfolding closedAt?
-  row-taken e t forms′ took = rw (← is, ← tells, e) took
+  row-taken e t forms′ took h top = rw (← is, ← tells, e) (record { taken = took .taken h top; long = took .long; rest = took .rest })
 
   pub row-left : told ≡ false → Topped n live forms
       → TookUp n (takeIfClosed n marks all p (withLive n forms live) (checkAt flat ends lit r)) (Live live) forms forms

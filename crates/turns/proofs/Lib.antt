@@ -1,5 +1,3 @@
-pub mod FormBits
-pub mod FormWords
 pub mod FormRows
 pub mod Scanning
 pub mod Degrees

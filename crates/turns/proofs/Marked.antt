@@ -20,11 +20,11 @@ use Rattle.machine.specs.Report.{marked}
 use Rattle.machine.specs.Lists.{view, formsOf}
 use Rattle.machine.proofs.Budgets.{FewAt, few-stage}
 use Rattle.turns.specs.declared.RunAnswer.the-variants.{Refused, Over}
-use Rattle.turns.specs.declared.Taken.{Taken}
-use Rattle.turns.specs.declared.Taken.the-variants.{Failed, Live}
+use Rattle.forms.specs.declared.Taken.{Taken}
+use Rattle.forms.specs.declared.Taken.the-variants.{Failed, Live}
 use Rattle.turns.specs.declared.Ended.{Ended}
-use Rattle.turns.specs.Lists.{withLive, stateOf, Topped, TakenAs, TookUp}
-use Rattle.turns.specs.Sides.{closedAt?}
+use Rattle.forms.specs.Forms.{withLive, Topped, TakenAs, TookUp}
+use Rattle.turns.specs.Lists.{stateOf, closedAt?}
 use Rattle.turns.specs.Scans.{CountedRows}
 use Rattle.turns.specs.Turns.{RowLists, rowChecks, Qubitwise, Kept, StageAs, mostBy, EndedAs, runFrom}
 use Rattle.turns.specs.Runs.{stageIn, endOf, TookClosed, TurnedHalf, reportBy, Ran, RanHalf, fits?, fitting, Runs}

@@ -15,7 +15,7 @@ use Rattle.turns.specs.declared.Dangling.{Dangling}
 use Rattle.turns.specs.declared.Dangling.the-variants.{NoRow, At}
 use Rattle.turns.specs.declared.Choice.{Choice}
 use Rattle.turns.specs.declared.Choice.the-variants.{NoQubit, Named}
-use Rattle.turns.specs.declared.Taken.{Taken}
+use Rattle.forms.specs.declared.Taken.{Taken}
 use Rattle.turns.specs.declared.Move.the-variants.{Spent, Made}
 use Rattle.turns.specs.declared.Ended.{Ended}
 use Rattle.machine.specs.declared.Word.the-variants.{Certain, Unsure}

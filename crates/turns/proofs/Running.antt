@@ -14,8 +14,8 @@ use Rattle.binary.proofs.Bits.{bit as cases, never, eq-eqb, eqb-differ, and-out
 use Rattle.machine.specs.declared.Word.{Word}
 use Rattle.machine.specs.declared.Word.the-variants.{None, Stopped}
 use Rattle.machine.specs.declared.Word
-use Rattle.turns.specs.declared.Taken.{Taken}
-use Rattle.turns.specs.declared.Taken.the-variants.{Failed, Live}
+use Rattle.forms.specs.declared.Taken.{Taken}
+use Rattle.forms.specs.declared.Taken.the-variants.{Failed, Live}
 use Rattle.turns.specs.declared.Move.{Move}
 use Rattle.turns.specs.declared.Move.the-variants.{Spent, Made}
 use Rattle.turns.specs.declared.Ended.{Ended}
@@ -23,7 +23,8 @@ use Rattle.machine.specs.Words.{finished}
 use Rattle.machine.specs.Machine.{State, Stage, on, failed, End, isOpen, noneOpen, before, turn, run}
 use Rattle.machine.specs.Report.{marked}
 use Rattle.machine.specs.Lists.{view}
-use Rattle.turns.specs.Lists.{stateOf, Topped}
+use Rattle.forms.specs.Forms.{Topped}
+use Rattle.turns.specs.Lists.{stateOf}
 use Rattle.turns.specs.Turns.{RowLists, rowChecks, Qubitwise, StageAs, Kept, Turned, turnBy, mostBy, spent?, Moved, EndedAs, runFrom}
 use Rattle.machine.proofs.Runs.{Unsaid}
 use Rattle.machine.proofs.Guessing.{most-rule}

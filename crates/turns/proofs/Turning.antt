@@ -16,11 +16,12 @@ use Rattle.binary.specs.Words.{bit}
 use Rattle.binary.proofs.Bits.{bit as cases, never, eqb-eq, eq-eqb, eqb-differ, or-out, iff-eq}
 use Rattle.binary.proofs.WordBits.{bit-pow, one-shl}
 use Rattle.code.specs.Lists.{rowAt}
-use Rattle.turns.specs.declared.Taken.{Taken}
+use Rattle.forms.specs.declared.Taken.{Taken}
 use Rattle.machine.specs.Machine.{Form, Forms, put, isOpen, part, empty?, closed?, closing, side, takeUpAll, stage, settle}
 use Rattle.machine.specs.Lists.{view, formsOf}
-use Rattle.turns.specs.Lists.{withLive, stateOf, Topped, TakenAs, TookUp}
-use Rattle.turns.specs.Sides.{check, IsSide, closedAt?}
+use Rattle.forms.specs.Forms.{withLive, Topped, TakenAs, TookUp}
+use Rattle.turns.specs.Lists.{stateOf, closedAt?}
+use Rattle.forms.specs.Sides.{check, IsSide}
 use Rattle.turns.specs.Turns.{RowLists, rowChecks, Qubitwise, StageAs, Turned, ToppedWord, settleBy, peelBy, guessBy}
 use Rattle.machine.proofs.Settling.{side-top}
 use Rattle.machine.proofs.Stages.{open-put}

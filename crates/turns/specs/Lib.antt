@@ -1,5 +1,4 @@
 pub mod Lists
-pub mod Sides
 pub mod Scans
 pub mod Turns
 pub mod Runs

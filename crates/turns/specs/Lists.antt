@@ -2,16 +2,15 @@
 --   stateOf     marks and forms as lists, with the live guesses and the turns made
 --   checksFrom  the rows of the flat list from a row on, with their readings
 --   openOf      how many open qubits a row has, as an answer; danglingAs, choiceOf likewise
---   Topped      no form has a bit above the live guesses
---   TookUp      what taking up rows leaves in the list of forms
+--   closedAt?   whether a row is to be taken up; takeIfClosed: the row taken up, if it is to be
 use mathlib.Core.Path.{_≡_}
-use mathlib.Core.Bool.{false, _&&_}
+use mathlib.Core.Bool.{Bool, _&&_, _||_}
 use mathlib.Core.Option.{Option, none, some}
 use mathlib.Core.List.{List, [], _∷_}
-use Prim.Native.Nat.{ℕ, zero, suc, _+_, _≤_, _<_}
-use lib.Dec.{eqb, ltb}
-use lib.ListN.{length, getD}
-use Rattle.binary.specs.Meaning.{Check}
+use Prim.Native.Nat.{ℕ, zero, suc}
+use lib.Dec.{eqb}
+use lib.ListN.{getD}
+use Rattle.binary.specs.Meaning.{Qubits, Check, has}
 use Rattle.code.specs.Lists.{rowAt}
 use Rattle.turns.specs.declared.Open.{Open}
 use Rattle.turns.specs.declared.Open.the-variants.{Closed, One, More}
@@ -19,16 +18,12 @@ use Rattle.turns.specs.declared.Dangling.{Dangling}
 use Rattle.turns.specs.declared.Dangling.the-variants.{NoRow, At}
 use Rattle.turns.specs.declared.Choice.{Choice}
 use Rattle.turns.specs.declared.Choice.the-variants.{NoQubit, Named}
-use Rattle.turns.specs.declared.Taken.{Taken}
-use Rattle.turns.specs.declared.Taken.the-variants.{Failed, Live}
-use Rattle.machine.specs.Machine.{Forms, State}
-use Rattle.machine.specs.Lists.{view, formsOf}
+use Rattle.machine.specs.Machine.{Forms, State, isOpen, closed?, takeIf}
+use Rattle.machine.specs.Lists.{view}
+use Rattle.forms.specs.Forms.{withLive}
 
 ----------------------------------------------------------------------
 -- Lists read
-
-abbrev pub withLive : ℕ → List ℕ → ℕ → Forms
-withLive n forms live = record { form = formsOf n forms; live = live }
 
 abbrev pub stateOf : ℕ → List ℕ → List ℕ → ℕ → ℕ → State
 stateOf n marks forms live turns = record { mark = view n marks; forms = withLive n forms live; turns = turns }
@@ -60,17 +55,11 @@ choiceOf none = NoQubit
 choiceOf (some p) = Named (record { 0 = p })
 
 ----------------------------------------------------------------------
--- Taking up rows
+-- Rows taken up
 
-abbrev pub Topped : ℕ → ℕ → List ℕ → Type 0
-Topped n live forms = (q k : ℕ) → live < k → formsOf n forms q k ≡ false
+-- The rows to take up: those that are closed, and have qubit p unless all are asked for.
+unfoldable pub closedAt? : Bool → ℕ → Qubits → Check → Bool
+closedAt? all p o c = (all || has (c .row) p) && closed? o c
 
-abbrev pub TakenAs : ℕ → List ℕ → Option Forms → Taken → Type 0
-TakenAs n forms none t = t ≡ Failed
-TakenAs n forms (some fs) t = (t ≡ Live (fs .live)) × (formsOf n forms ≡ fs .form) × Topped n (fs .live) forms
-
--- The forms before and after; elements past n stay.
-pub record TookUp (n : ℕ) (fs : Option Forms) (t : Taken) (forms forms′ : List ℕ) : Type 0 where
-  pub taken : TakenAs n forms′ fs t
-  pub long : length forms′ ≡ length forms
-  pub rest : (q : ℕ) → n ≤ q → getD forms′ q 0 ≡ getD forms q 0
+abbrev pub takeIfClosed : ℕ → List ℕ → Bool → ℕ → Forms → Check → Option Forms
+takeIfClosed n marks all p fs c = takeIf (closedAt? all p (isOpen (view n marks)) c) fs c

@@ -22,7 +22,7 @@ use Rattle.machine.specs.Report.{marked, none?, report}
 use Rattle.machine.specs.Lists.{view, formsOf}
 use Rattle.turns.specs.declared.RunAnswer.{RunAnswer}
 use Rattle.turns.specs.declared.RunAnswer.the-variants.{Refused, Over}
-use Rattle.turns.specs.declared.Taken.{Taken}
+use Rattle.forms.specs.declared.Taken.{Taken}
 use Rattle.turns.specs.declared.Ended.{Ended}
 use Rattle.turns.specs.Turns.{RowLists, rowChecks, Qubitwise, Kept, StageAs, EndedAs}
 

@@ -14,15 +14,16 @@ use lib.Dec.{eqb}
 use lib.ListN.{length, getD}
 use Rattle.binary.specs.Meaning.{Qubits, Check}
 use Rattle.binary.specs.Words.{bit}
-use Rattle.turns.specs.declared.Taken.{Taken}
-use Rattle.turns.specs.declared.Taken.the-variants.{Failed, Live}
+use Rattle.forms.specs.declared.Taken.{Taken}
+use Rattle.forms.specs.declared.Taken.the-variants.{Failed, Live}
 use Rattle.turns.specs.declared.Move.{Move}
 use Rattle.turns.specs.declared.Move.the-variants.{Spent, Made}
 use Rattle.turns.specs.declared.Ended.{Ended}
 use Rattle.machine.specs.Machine.{State, Stage, on, failed, End, put, isOpen, dangling, some?, most, settle, peel, guess, turn, run}
 use Rattle.machine.specs.Report.{none?}
 use Rattle.machine.specs.Lists.{view, formsOf}
-use Rattle.turns.specs.Lists.{stateOf, checkAt, checksFrom, Topped}
+use Rattle.forms.specs.Forms.{Topped}
+use Rattle.turns.specs.Lists.{stateOf, checkAt, checksFrom}
 
 pub record RowLists : Type 0 where
   pub flat : List ℕ

@@ -4,12 +4,12 @@ ghost use Prim.Native.Nat.{_+_, _≤_};
 ghost use lib.ListN.{length};
 ghost use Rattle.turns.specs.Runs.{TookClosed, TurnedHalf, reportBy, RanHalf};
 use crate::Ended;
-use crate::Taken;
-use crate::forms;
+use crate::closed;
 use crate::guesses;
 use crate::rows;
 use crate::turns;
 use code::Qubit;
+use forms::Taken;
 use machine::HalfReport;
 use machine::Word;
 
@@ -28,7 +28,7 @@ fn take_up_closed(
     ensures { λ t. ⌜ TookClosed n (record { flat = now (flat .entry); ends = now (ends .entry); lit = now (lit .entry); first = first; count = count }) (now (marks .entry)) (now (forms .entry)) (now (forms .exit)) t ⌝ }
 {
     lists::clear_words(forms, 0, n);
-    forms::take_up_rows(
+    closed::take_up_rows(
         n,
         flat,
         ends,

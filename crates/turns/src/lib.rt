@@ -3,7 +3,7 @@ ghost use mathlib.Core.Path.{_≡_};
 ghost use lib.ListN.{length};
 ghost use Rattle.turns.specs.Runs.{fits?, Runs};
 
-mod forms;
+mod closed;
 mod guesses;
 mod half;
 mod rows;
@@ -11,6 +11,7 @@ mod turns;
 
 use code::Qubit;
 use code::Row;
+use forms::Taken;
 use machine::HalfReport;
 use machine::Word;
 
@@ -37,12 +38,6 @@ enum Dangling {
 enum Choice {
     NoQubit,
     Named(Qubit),
-}
-
-// What taking up rows comes to: the half ends in none, or so many guesses are live.
-enum Taken {
-    Failed,
-    Live(u16),
 }
 
 // A turn, or that the budget is spent.

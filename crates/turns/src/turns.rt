@@ -9,18 +9,18 @@ ghost use Rattle.machine.specs.Machine.{isOpen};
 ghost use Rattle.machine.specs.Words;
 ghost use Rattle.machine.specs.Report.{marked};
 ghost use Rattle.machine.specs.Lists.{view};
-ghost use Rattle.turns.specs.Lists.{Topped};
+ghost use Rattle.forms.specs.Forms.{Topped};
 ghost use Rattle.turns.specs.Turns.{Turned, ToppedWord, settleBy, peelBy, guessBy, Moved, EndedAs, runFrom};
 use crate::Choice;
 use crate::Dangling;
 use crate::Ended;
 use crate::Move;
-use crate::Taken;
-use crate::forms;
+use crate::closed;
 use crate::guesses;
 use crate::rows;
 use code::Qubit;
 use code::Row;
+use forms::Taken;
 use machine::Word;
 
 // The open qubit p gets a mark and a form; then the rows that this turn closed are taken up.
@@ -46,7 +46,7 @@ fn settle(
     let at = p.0 as usize;
     marks[at] = mark;
     forms[at] = form;
-    forms::take_up_rows(
+    closed::take_up_rows(
         n,
         flat,
         ends,

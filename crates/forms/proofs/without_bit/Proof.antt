@@ -1,10 +1,10 @@
--- `turns::forms::without_bit` meets its contract: the word is the one of `closed-bits`. Assumes nothing.
+-- `forms::without_bit` meets its contract: the word is the one of `closed-bits`. Assumes nothing.
 use borrow.Author.Needs.{needs}
 use lib.Pow.{pow-pos}
-use Rattle.turns.proofs.FormBits.{closedUp, closed-bits}
+use Rattle.forms.proofs.FormBits.{closedUp, closed-bits}
 use Rattle.binary.proofs.WordBits.{one-shl}
-use Rattle.turns.proofs.forms.without_bit.Statement.{statement}
-use Rattle.turns.proofs.forms.without_bit.Tie as tie
+use Rattle.forms.proofs.without_bit.Statement.{statement}
+use Rattle.forms.proofs.without_bit.Tie as tie
 
 shr-result : tie.Need-shr-result
 shr-result c = search needs

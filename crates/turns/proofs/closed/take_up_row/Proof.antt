@@ -1,9 +1,9 @@
--- `turns::forms::take_up_row` meets its contract. Assumes nothing.
+-- `turns::closed::take_up_row` meets its contract. Assumes nothing.
 use denote.Ref.{now}
 use borrow.Author.Needs.{needs}
 use Rattle.turns.proofs.FormRows.{row-taken, row-left}
-use Rattle.turns.proofs.forms.take_up_row.Statement.{statement}
-use Rattle.turns.proofs.forms.take_up_row.Tie as tie
+use Rattle.turns.proofs.closed.take_up_row.Statement.{statement}
+use Rattle.turns.proofs.closed.take_up_row.Tie as tie
 
 row-at-requires : tie.Need-row-at-requires
 row-at-requires c κs = search needs
@@ -27,7 +27,7 @@ returns : tie.Need-returns
 returns c =
     let at = c .before .before .before .before .before .before in
     let args = at .before .before .before .before .before .before .before .before .args in
-    row-taken _ _ _ (now (args .lit)) (now (args .marks)) _ _ _ (args .live) _ _ (at .before .before .row-at .ensures) _ (at .before .closes .ensures) (at .if1 .taken) _ _ (c .before .before .take-up .ensures)
+    row-taken _ _ _ (now (args .lit)) (now (args .marks)) _ _ _ (args .live) _ _ (at .before .before .row-at .ensures) _ (at .before .closes .ensures) (at .if1 .taken) _ _ (c .before .before .take-up .ensures) (search needs) (at .before .before .before .before .before .before .before .before .pre .3)
 
 returns-2 : tie.Need-returns-2
 returns-2 c =

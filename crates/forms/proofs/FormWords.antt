@@ -16,14 +16,14 @@ use Rattle.binary.specs.Bits.{_⊕_}
 use Rattle.binary.specs.Meaning.{Row, Check, odd}
 use Rattle.binary.specs.Words.{bit}
 use Rattle.binary.proofs.Bits.{⊕-false, ⊕-assoc, &&-false, never}
-use Rattle.turns.specs.declared.Taken.the-variants.{Failed, Live}
+use Rattle.forms.specs.declared.Taken.the-variants.{Failed, Live}
 use Rattle.machine.specs.Machine.{Form, side, newest, without, replace, takeAt, takeUp, oneLess}
 use Rattle.machine.specs.Lists.{view, formsOf}
-use Rattle.turns.specs.Lists.{withLive, Topped, TookUp}
-use Rattle.turns.specs.Sides.{check, IsSide, Newest, Replaced}
+use Rattle.forms.specs.Forms.{withLive, Topped, TookUp, TakesUp}
+use Rattle.forms.specs.Sides.{check, IsSide, Newest, Replaced}
 use Rattle.machine.proofs.Settling.{side-top}
 use Rattle.machine.proofs.TakingUp.{newest-is, without-below, without-above}
-use Rattle.turns.proofs.FormBits.{replaced-low}
+use Rattle.forms.proofs.FormBits.{replaced-low}
 use Rattle.binary.proofs.WordBits.{order, bit-xor, bit-zero, bit-one}
 
 pub view-in : (n : ℕ) (l : List ℕ) (q : ℕ) → q < n → view n l q ≡ getD l q 0
@@ -129,12 +129,12 @@ module _ (n : ℕ) (row : Row) (lit : Bool) (live : ℕ) (forms : List ℕ) (top
   by-word : takeUp (withLive n forms live) (check lit row) ≡ takeAt (newest live (bit word)) (bit word) (withLive n forms live)
   by-word = ap (λ (s : Form). takeAt (newest live s) s (withLive n forms live)) (sym (fun-ext (is .bits)))
 
-  pub took-nothing : word ≡ 0 → TookUp n (takeUp (withLive n forms live) (check lit row)) (Live live) forms forms
+  took-nothing : word ≡ 0 → TookUp n (takeUp (withLive n forms live) (check lit row)) (Live live) forms forms
   took-nothing e =
       rw (by-word, e, newest-zero live (bit 0) (λ i. bit-zero (suc i)), bit-zero 0)
       (record { taken = (refl, refl, top); long = refl; rest = λ q h. refl })
 
-  pub took-failed : word ≡ 1 → TookUp n (takeUp (withLive n forms live) (check lit row)) Failed forms forms
+  took-failed : word ≡ 1 → TookUp n (takeUp (withLive n forms live) (check lit row)) Failed forms forms
   took-failed e =
       rw (by-word, e, newest-zero live (bit 1) (λ i. bit-one (suc i) ∙ eqb·suc-zero i), bit-one 0)
       (record { taken = refl; long = refl; rest = λ q h. refl })
@@ -143,7 +143,7 @@ module _ (n : ℕ) (row : Row) (lit : Bool) (live : ℕ) (forms : List ℕ) (top
   word-top : (j : ℕ) → live < j → bit word j ≡ false
   word-top j l = is .bits j ∙ side-top (withLive n forms 0) (check lit row) j (λ q. top q j l) (omega arith)
 
-  pub guess-live : (k : ℕ) → Newest word k → k ≤ live
+  guess-live : (k : ℕ) → Newest word k → k ≤ live
   guess-live k new = ⊎-elim (λ (l : live < k). never (new .has) (word-top k l)) (λ l. l) (order live k)
 
   replaced-top : (k : ℕ) → k ≤ live → (q j : ℕ) → oneLess live < j → replace k (bit word) (formsOf n forms q) j ≡ false
@@ -152,7 +152,7 @@ module _ (n : ℕ) (row : Row) (lit : Bool) (live : ℕ) (forms : List ℕ) (top
       without-above k j (λ i. formsOf n forms q i ⊕ (formsOf n forms q k && bit word i)) (omega arith)
       ∙ rw (top q (suc j) e, word-top (suc j) e) (&&-false (formsOf n forms q k))
 
-  pub took-guess : (k : ℕ) (forms′ : List ℕ) → Newest word k → Replaced n k word forms forms′
+  took-guess : (k : ℕ) (forms′ : List ℕ) → Newest word k → Replaced n k word forms forms′
       → TookUp n (takeUp (withLive n forms live) (check lit row)) (Live (live - 1)) forms forms′
   took-guess zero forms′ new so = absurd (not-suc-le-zero (new .guess))
   took-guess (suc k) forms′ new so =
@@ -164,3 +164,27 @@ module _ (n : ℕ) (row : Row) (lit : Bool) (live : ℕ) (forms : List ℕ) (top
         long = so .long;
         rest = so .rest;
       })
+
+-- For every list and every forms.
+module _ (n : ℕ) (row : Row) (lit : Bool) (live : ℕ) (forms : List ℕ) where
+  pub takes-none : length forms < n → TakesUp n (check lit row) live Failed forms forms
+  takes-none h = record { long = refl; rest = λ q i. refl; taken = λ l top. absurd (omega arith) }
+
+  module _ (word : ℕ) (is : IsSide n forms (check lit row) word) where
+    pub takes-nothing : word ≡ 0 → TakesUp n (check lit row) live (Live live) forms forms
+    takes-nothing e = record { long = refl; rest = λ q i. refl; taken = λ l top. took-nothing n row lit live forms top word is e .taken }
+
+    pub takes-failed : word ≡ 1 → TakesUp n (check lit row) live Failed forms forms
+    takes-failed e = record { long = refl; rest = λ q i. refl; taken = λ l top. took-failed n row lit live forms top word is e .taken }
+
+    pub takes-dead : (k : ℕ) → Newest word k → live ≡ 0 → TakesUp n (check lit row) live Failed forms forms
+    takes-dead k new e =
+        record {
+          long = refl;
+          rest = λ q i. refl;
+          taken = λ l top. absurd (omega (arith, new .guess, guess-live n row lit live forms top word is k new));
+        }
+
+    pub takes-guess : (k : ℕ) (forms′ : List ℕ) → Newest word k → Replaced n k word forms forms′ → TakesUp n (check lit row) live (Live (live - 1)) forms forms′
+    takes-guess k forms′ new so =
+        record { long = so .long; rest = so .rest; taken = λ l top. took-guess n row lit live forms top word is k forms′ new so .taken }

@@ -1,14 +1,14 @@
--- `turns::forms::take_up_rows` meets its contract: what is left to take up comes to the whole. Assumes nothing.
+-- `turns::closed::take_up_rows` meets its contract: what is left to take up comes to the whole. Assumes nothing.
 use mathlib.Core.Path.{_≡_}
 use Prim.Native.Nat.{_+_, _-_, _≤_}
 use borrow.Author.Needs.{needs}
 use Rattle.machine.specs.Machine.{isOpen, takeUpAll}
 use Rattle.machine.specs.Lists.{view}
-use Rattle.turns.specs.Lists.{withLive, checksFrom}
-use Rattle.turns.specs.Sides.{closedAt?}
+use Rattle.forms.specs.Forms.{withLive}
+use Rattle.turns.specs.Lists.{checksFrom, closedAt?}
 use Rattle.turns.proofs.FormRows.{Taking, taking-start, taking-turn, taking-failed, taking-end}
-use Rattle.turns.proofs.forms.take_up_rows.Statement.{statement}
-use Rattle.turns.proofs.forms.take_up_rows.Tie as tie
+use Rattle.turns.proofs.closed.take_up_rows.Statement.{statement}
+use Rattle.turns.proofs.closed.take_up_rows.Tie as tie
 
 abbrev Inv-loop : tie.InvT-loop
 Inv-loop n flat ends lit first count marks all p live forms₀ end left₀ r₀ forms left r =

@@ -1,8 +1,8 @@
--- `turns::forms::newest_guess` meets its contract: the count of leading zeros finds the highest bit. Assumes nothing.
+-- `forms::newest_guess` meets its contract: the count of leading zeros finds the highest bit. Assumes nothing.
 use native.Mathlib.Omega.{arith}
-use Rattle.turns.proofs.FormBits.{zeros-few, newest-top}
-use Rattle.turns.proofs.forms.newest_guess.Statement.{statement}
-use Rattle.turns.proofs.forms.newest_guess.Tie as tie
+use Rattle.forms.proofs.FormBits.{zeros-few, newest-top}
+use Rattle.forms.proofs.newest_guess.Statement.{statement}
+use Rattle.forms.proofs.newest_guess.Tie as tie
 
 sub-result : tie.Need-sub-result
 sub-result c = omega (arith, zeros-few (c .args .side) (c .pre) (c .fits .side .fits))

@@ -1,11 +1,11 @@
--- `turns::forms::side_of` meets its contract: the sum so far with what is left of the row makes the side. Assumes nothing.
+-- `forms::side_of` meets its contract: the sum so far with what is left of the row makes the side. Assumes nothing.
 use Prim.Native.Nat.{_≤_, _-_}
 use lib.ListN.{length}
 use borrow.Author.Needs.{needs}
-use Rattle.turns.specs.Sides.{check}
-use Rattle.turns.proofs.FormWords.{SideLeft, side-start, side-turn, side-end}
-use Rattle.turns.proofs.forms.side_of.Statement.{statement}
-use Rattle.turns.proofs.forms.side_of.Tie as tie
+use Rattle.forms.specs.Sides.{check}
+use Rattle.forms.proofs.FormWords.{SideLeft, side-start, side-turn, side-end}
+use Rattle.forms.proofs.side_of.Statement.{statement}
+use Rattle.forms.proofs.side_of.Tie as tie
 
 abbrev Inv-loop : tie.InvT-loop
 Inv-loop n row lit forms side₀ i₀ side i = (i ≤ length row) × SideLeft n forms (check lit row) side i

@@ -15,7 +15,7 @@ use Rattle.binary.specs.Words.{bit}
 use Rattle.binary.proofs.Bits.{⊕-false}
 use Rattle.binary.proofs.WordBits.{order, bit-xor, bit-past, bit-shr, bit-mod, one-shl}
 use Rattle.machine.specs.Machine.{Form, without, replace}
-use Rattle.turns.specs.Sides.{Newest}
+use Rattle.forms.specs.Sides.{Newest}
 use Rattle.machine.proofs.TakingUp.{without-below, without-above}
 
 ----------------------------------------------------------------------

@@ -1,13 +1,13 @@
--- `turns::forms::replace_guess` meets its contract: the first q forms are done. Assumes nothing.
+-- `forms::replace_guess` meets its contract: the first q forms are done. Assumes nothing.
 use mathlib.Core.Path.{_≡_}
 use mathlib.Core.Logic.{⊎-elim}
 use Prim.Native.Nat.{_≤_, _-_}
 use native.Mathlib.Omega.{arith}
 use borrow.Author.Needs.{needs}
-use Rattle.turns.specs.Sides.{Replaced}
-use Rattle.turns.proofs.FormWords.{replaced-start, replaced-turn, replaced-skip}
-use Rattle.turns.proofs.forms.replace_guess.Statement.{statement}
-use Rattle.turns.proofs.forms.replace_guess.Tie as tie
+use Rattle.forms.specs.Sides.{Replaced}
+use Rattle.forms.proofs.FormWords.{replaced-start, replaced-turn, replaced-skip}
+use Rattle.forms.proofs.replace_guess.Statement.{statement}
+use Rattle.forms.proofs.replace_guess.Tie as tie
 
 abbrev Inv-loop : tie.InvT-loop
 Inv-loop n k side forms₀ q₀ forms q = (q ≤ n) × Replaced q k side forms₀ forms

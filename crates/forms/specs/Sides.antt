@@ -3,19 +3,15 @@
 --   IsSide        a word is a row's side
 --   Newest        the newest guess in a side: its highest bit
 --   Replaced      a guess replaced by the rest of a side in the first forms of a list
---   closedAt?     whether a row is to be taken up
---   takeIfClosed  a row taken up, if it is to be
 use mathlib.Core.Path.{_≡_}
-use mathlib.Core.Bool.{Bool, true, false, _&&_, _||_}
-use mathlib.Core.Option.{Option}
+use mathlib.Core.Bool.{Bool, true, false}
 use mathlib.Core.List.{List}
 use Prim.Native.Nat.{ℕ, _≤_, _<_}
 use lib.ListN.{length, getD}
-use Rattle.binary.specs.Meaning.{Qubits, Row, Check, has}
+use Rattle.binary.specs.Meaning.{Row, Check}
 use Rattle.binary.specs.Words.{bit}
-use Rattle.machine.specs.Machine.{Forms, side, replace, isOpen, closed?, takeIf}
-use Rattle.machine.specs.Lists.{view}
-use Rattle.turns.specs.Lists.{withLive}
+use Rattle.machine.specs.Machine.{side, replace}
+use Rattle.forms.specs.Forms.{withLive}
 
 abbrev pub check : Bool → Row → Check
 check lit row = record { lit = lit; row = row }
@@ -35,10 +31,3 @@ pub record Replaced (n k side : ℕ) (forms forms′ : List ℕ) : Type 0 where
   pub done : (q : ℕ) → q < n → (j : ℕ) → bit (getD forms′ q 0) j ≡ replace k (bit side) (bit (getD forms q 0)) j
   pub rest : (q : ℕ) → n ≤ q → getD forms′ q 0 ≡ getD forms q 0
   pub long : length forms′ ≡ length forms
-
--- The rows to take up: those that are closed, and have qubit p unless all are asked for.
-unfoldable pub closedAt? : Bool → ℕ → Qubits → Check → Bool
-closedAt? all p o c = (all || has (c .row) p) && closed? o c
-
-abbrev pub takeIfClosed : ℕ → List ℕ → Bool → ℕ → Forms → Check → Option Forms
-takeIfClosed n marks all p fs c = takeIf (closedAt? all p (isOpen (view n marks)) c) fs c

@@ -1,8 +1,8 @@
--- `turns::forms::replaced` meets its contract. Assumes nothing.
+-- `forms::replaced` meets its contract. Assumes nothing.
 use borrow.Author.Needs.{needs}
-use Rattle.turns.proofs.FormBits.{replaced-with, replaced-without}
-use Rattle.turns.proofs.forms.replaced.Statement.{statement}
-use Rattle.turns.proofs.forms.replaced.Tie as tie
+use Rattle.forms.proofs.FormBits.{replaced-with, replaced-without}
+use Rattle.forms.proofs.replaced.Statement.{statement}
+use Rattle.forms.proofs.replaced.Tie as tie
 
 shr-if1 : tie.Need-shr-if1
 shr-if1 c = search needs

@@ -1,0 +1,2 @@
+pub mod FormBits
+pub mod FormWords
