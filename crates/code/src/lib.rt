@@ -10,8 +10,11 @@ ghost use Rattle.code.specs.Tests.{ascending?};
 // A qubit's number.
 pub struct Qubit(pub u16);
 
-// A row's number: the X rows from 0 on, then the Z rows.
+// A row's place among all rows: the X rows from 0 on, then the Z rows.
 pub struct Row(pub u16);
+
+// A row's number within its kind, as records give it: the X rows and the Z rows both count from 0.
+pub struct KindRow(pub u16);
 
 // An element as an index, with its bound.
 fn index(x: u16) -> usize

@@ -5,8 +5,8 @@ ghost use Prim.Native.Nat.{_+_, _≤_};
 ghost use lib.ListN.{set};
 ghost use Rattle.records.specs.Records.{pauli, lost, lit};
 ghost use Rattle.readout.specs.Readout.{Begun, marked?, Marked, Adds};
+use code::KindRow;
 use code::Qubit;
-use code::Row;
 use lists::clear_bytes;
 use records::Answer;
 use records::Refusal;
@@ -107,7 +107,7 @@ fn first_of(sizes: Sizes, x_kind: bool) -> usize
 }
 
 // A lit row of a kind, X rows or else Z rows, by its number within the kind.
-pub fn light(st: State, x_kind: bool, r: Row, shot: &mut [u8], short: bool) -> Reply
+pub fn light(st: State, x_kind: bool, r: KindRow, shot: &mut [u8], short: bool) -> Reply
     ensures { λ reply. ⌜ Adds short (lit (pauli «x_kind»)) (r .0) st (now (shot .entry)) (now (shot .exit)) reply ⌝ }
 {
     let sizes = st.sizes;

@@ -7,8 +7,8 @@ ghost use Rattle.records.specs.Lists.{held};
 ghost use Rattle.loading.specs.Loading.{RowTaken};
 ghost use Rattle.reading.specs.Shapes.{decode?, RecordAs};
 ghost use Rattle.stream.specs.Takes.{Takes};
+use code::KindRow;
 use code::Qubit;
-use code::Row;
 use reading::Shape;
 use reading::number;
 use reading::qubits_of;
@@ -59,7 +59,7 @@ pub fn take(
         ),
         Shape::Row(x, w) => read_row(st, x, flat, ends, bytes, w as usize, short),
         Shape::Lose => readout::lose(st, Qubit(number(bytes, 1)), shot, short),
-        Shape::Light(x) => readout::light(st, x, Row(number(bytes, 1)), shot, short),
+        Shape::Light(x) => readout::light(st, x, KindRow(number(bytes, 1)), shot, short),
         Shape::Decode => refused(st, Refusal::Unknown, false),
     }
 }
