@@ -77,7 +77,10 @@ never e = let z : _≡_ {A = ℕ} 0 1 = cc in omega arith
 -- The lines of an answer were put where there is room for them, or nothing was.
 module _ (text : List ℕ) (most at : ℕ) (old : List ℕ) where
   pub lined : {new : List ℕ} {r : ℕ} → true ≡ leb (at + most) (length old) → length text ≤ most → Puts text at old new r → Lined text most at old new (record { end = r; room = true })
-  lined t l p = record { told = t; put = λ e. (p .bytes, omega (arith, p .ends, leb-true (at + most) (length old) (sym t))); none = λ e. absurd (never e) }
+  lined t l p =
+      let h : at + most ≤ length old = leb-true (at + most) (length old) (sym t) in
+      record { told = t; put = λ e. (p .bytes, omega (arith, p .ends)); fits = λ e. omega (arith, p .ends); none = λ e. absurd (never e) }
 
   pub unlined : false ≡ leb (at + most) (length old) → Lined text most at old old (record { end = at; room = false })
-  unlined t = record { told = t; put = λ e. absurd (never (sym e)); none = λ e. (refl, refl) }
+  unlined t =
+      record { told = t; put = λ e. absurd (never (sym e)); fits = λ e. absurd (never (sym e)); none = λ e. (refl, refl) }

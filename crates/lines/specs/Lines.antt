@@ -9,7 +9,7 @@
 use mathlib.Core.Path.{_≡_}
 use mathlib.Core.Bool.{Bool, true, false, cond}
 use mathlib.Core.List.{List, [], _∷_, _++_}
-use Prim.Native.Nat.{ℕ, suc, _+_, _*_, min}
+use Prim.Native.Nat.{ℕ, suc, _+_, _*_, _≤_, min}
 use lib.Dec.{eqb, leb}
 use lib.ListN.{length, take}
 use lib.Seq.{sets}
@@ -82,4 +82,5 @@ roomFor n x z = 256 + 6 * (min n (length x) + min n (length z))
 pub record Lined (text : List ℕ) (most at : ℕ) (old new : List ℕ) (r : Put) : Type 0 where
   pub told : r .room ≡ leb (at + most) (length old)
   pub put : r .room ≡ true → (new ≡ sets old at text) × (r .end ≡ at + length text)
+  pub fits : r .room ≡ true → r .end ≤ length old
   pub none : r .room ≡ false → (new ≡ old) × (r .end ≡ at)
