@@ -193,7 +193,7 @@ fn argument(setup: &Setup, arguments: &[&str]) -> Result<(String, String), Strin
 
 fn help(setup: &Setup) -> Checked {
     let actual = argument(setup, &["--help"])?;
-    match actual.0.starts_with("usage: shots < RECORDS\n") && !actual.0.contains("code ") {
+    match actual.0.starts_with("usage: shots < RECORDS\n") && !actual.0.contains("code 64") {
         true => same("standard error", &actual.1, ""),
         false => Err(format!("standard output: {:?}", actual.0)),
     }
