@@ -9,12 +9,13 @@ use native.Mathlib.Omega.{arith}
 use borrow.Author.Tests.{ltb-false}
 use lib.ListN.{length, getD}
 use Rattle.output.specs.declared.Output.{Output}
-use Rattle.output.specs.Writing.{total, Taken, Flushed}
+use Rattle.counts.specs.Counts.{total}
+use Rattle.output.specs.Writing.{Taken, Flushed}
 
 pub never : (b : Bool) → b ≡ true → b ≡ false → ⊥
 never b p q = let z : _≡_ {A = ℕ} 0 1 = cc in omega arith
 
-either : (b : Bool) → (b ≡ true) ⊎ (b ≡ false)
+pub either : (b : Bool) → (b ≡ true) ⊎ (b ≡ false)
 either true = inl refl
 either false = inr refl
 

@@ -1,9 +1,10 @@
 // Standard output: what it takes, and that it takes nothing more once a write has failed.
+use counts::sum;
 use libc::STDOUT_FILENO;
 ghost use mathlib.Core.Path.{_≡_};
 ghost use Prim.Native.Nat.{_≤_};
 ghost use lib.ListN.{length};
-ghost use Rattle.output.specs.Writing.{passing, Step, Written, Whole, total, Flushed};
+ghost use Rattle.output.specs.Writing.{passing, Step, Written, InTurn, Whole, Flush};
 
 // How many bytes of a text are taken. failed: the others can't be written.
 struct Wrote {
@@ -18,9 +19,9 @@ pub struct Output {
     pub failed: bool,
 }
 
-// Whether a write that failed is tried again: it was interrupted, or the output can't take more for now. Then others run first; to
-// sleep would need a reference to a struct, which the checker does not cover.
-fn try_again(error: i32) -> bool
+// Whether a read or a write that failed is tried again: it was interrupted, or there is nothing to read, or no room, for now. Then others
+// run first; to sleep would need a reference to a struct, which the checker does not cover.
+pub fn try_again(error: i32) -> bool
     ensures { λ r. ⌜ r ≡ passing error ⌝ }
 {
     if error == libc::EAGAIN {
@@ -57,7 +58,7 @@ fn write_once(text: &[u8], count: usize) -> Wrote
 // Writes a text. What a write took is never written again, and what it did not take is tried again until a write fails. A proved loop
 // has to end, so the writes are counted down from a number that no output uses up.
 fn write_out(text: &[u8]) -> Wrote
-    ensures { λ r. ⌜ Written (length (now (text .entry))) r ⌝ }
+    ensures { λ r. ⌜ Written (length (now (text .entry))) r × InTurn (length (now (text .entry))) (r .count) ⌝ }
 {
     let mut wrote = Wrote {
         count: 0,
@@ -88,19 +89,9 @@ fn whole_records(places: &[usize], count: usize) -> usize
     i
 }
 
-// A sum of counts; one that does not fit stays at the largest number.
-fn sum(a: u64, b: u64) -> u64
-    ensures { λ r. ⌜ r ≡ total a b ⌝ }
-{
-    if u64::MAX - a < b {
-        return u64::MAX;
-    }
-    a + b
-}
-
 // Writes a text, and counts its bytes and its records that were taken. A failed output is handed back as it is, without a write.
 pub fn flush(output: Output, text: &[u8], places: &[usize]) -> Output
-    ensures { λ r. ⌜ Flushed output (now (text .entry)) (now (places .entry)) r ⌝ }
+    ensures { λ r. ⌜ Flush output (now (text .entry)) (now (places .entry)) r ⌝ }
 {
     if output.failed {
         return output;

@@ -1,4 +1,1 @@
-pub mod Blocks
-pub mod Lines
-pub mod Progress
-pub mod Records
+pub mod Turns

@@ -1,23 +1,17 @@
 // Reads records from standard input, and writes the lines of their answers to standard output.
-mod blocks;
-mod failure;
-mod input;
-mod lines;
-mod progress;
+mod arguments;
 mod run;
-mod taking;
-mod text;
 
 // The lists of code and shot at their least lengths, the blocks in which the program reads and writes, and places for the records that a
 // block of output answers.
-fn main() {
+fn read_records() {
     let mut flat = [0u16; 16384];
     let mut ends = [0u16; 1024];
     let mut shot = [0u8; 2048];
     let mut input = io::large_buffer();
     let mut out = io::large_buffer();
     let mut places = [0usize; 16384];
-    run::run(
+    let end = run::run(
         &mut flat,
         &mut ends,
         &mut shot,
@@ -25,4 +19,13 @@ fn main() {
         &mut out,
         &mut places,
     );
+    run::tell(end);
+}
+
+// An argument is answered, and nothing is read.
+fn main() {
+    if arguments::answered() {
+        return;
+    }
+    read_records();
 }

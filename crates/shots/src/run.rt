@@ -1,21 +1,25 @@
 // The loop: a block of input at a time, to the end.
-use crate::blocks;
-use crate::failure;
-use crate::input;
+use counts::Tally;
 use output::Output;
 use records::State;
-ghost use Prim.Native.Nat.{_≤_, _<_};
+ghost use mathlib.Core.Path.{_≡_};
+ghost use mathlib.Core.Bool.{false};
+ghost use Prim.Native.Nat.{_≤_};
 ghost use lib.ListN.{length};
-ghost use Rattle.shots.specs.Lines.{answerMost};
-ghost use Rattle.shots.specs.Blocks.{Turned};
+ghost use Rattle.records.specs.Lists.{held};
+ghost use Rattle.taking.specs.Progress.{isFull};
+ghost use Rattle.shots.specs.Turns.{Turned, Ran};
 
-// What passes from block to block: the state, the bytes held at the front of the next one, what is written, and whether the records are
-// over.
-struct Turn {
+// What passes from block to block: the state, the counts, the bytes held at the front of the next one, what is written, whether the
+// records are over (last), and whether nothing more is read (over). error: errno where the last read failed, and 0 else.
+pub struct Turn {
     state: State,
+    tally: Tally,
     held: usize,
     output: Output,
+    last: bool,
     over: bool,
+    error: i32,
 }
 
 // Reads on behind the bytes held, takes the records, and holds what is left.
@@ -28,37 +32,41 @@ fn one_turn(
     out: &mut [u8],
     places: &mut [usize],
 ) -> Turn
-    requires { ⌜ (t .held ≤ length (now block)) × (answerMost ≤ length (now out)) × (0 < length (now places)) ⌝ }
-    ensures { λ r. ⌜ Turned (now (block .exit)) r ⌝ }
+    requires { ⌜ (t .held ≤ length (now block)) × (t .last ≡ false) ⌝ }
+    ensures { λ r. ⌜ Turned (isFull 0 (length (now (out .entry))) 0 (length (now (places .entry)))) t (held (now (flat .entry)) (now (ends .entry)) (now (shot .entry))) (now (block .entry)) (held (now (flat .exit)) (now (ends .exit)) (now (shot .exit))) (now (block .exit)) r ⌝ }
 {
     let st = t.state;
+    let tally = t.tally;
     let output = t.output;
-    let end = input::refill(block, t.held);
-    let ended = end == t.held;
+    let read = input::refill(block, t.held);
+    let end = read.end;
     let b = blocks::one_block(
         st,
+        tally,
         output,
+        read.ended,
         flat,
         ends,
         shot,
         &block[0..end],
-        ended,
         out,
         places,
     );
-    let p = b.progress;
-    let state = p.state;
+    let state = b.state;
+    let counted = b.tally;
     let after = b.output;
     Turn {
         state: state,
-        held: input::keep(block, p.taken, end),
+        tally: counted,
+        held: input::keep(block, b.taken, end),
         output: after,
-        over: after.failed | p.over | ended,
+        last: b.over,
+        over: after.failed | b.over | read.ended,
+        error: read.error,
     }
 }
 
-// Turn by turn to the end; standard error is told where that is a failed write. A proved loop has to end, so the turns are counted
-// down from a number that no input uses up.
+// Turn by turn to the end. A proved loop has to end, so the turns are counted down from a number that no input uses up.
 pub fn run(
     flat: &mut [u16],
     ends: &mut [u16],
@@ -66,26 +74,49 @@ pub fn run(
     block: &mut [u8],
     out: &mut [u8],
     places: &mut [usize],
-)
-    requires { ⌜ (answerMost ≤ length (now out)) × (0 < length (now places)) ⌝ }
+) -> Turn
+    ensures { λ r. ⌜ Ran (isFull 0 (length (now (out .entry))) 0 (length (now (places .entry)))) (held (now (flat .entry)) (now (ends .entry)) (now (shot .entry))) (held (now (flat .exit)) (now (ends .exit)) (now (shot .exit))) r ⌝ }
 {
     let st = states::fresh();
-    let none = Output {
+    let none = Tally {
+        bytes: 0,
+        records: 0,
+        codes: 0,
+        decodes: 0,
+        refusals: 0,
+        last: 0,
+        more: 0,
+    };
+    let output = Output {
         bytes: 0,
         records: 0,
         failed: false,
     };
     let mut t = Turn {
         state: st,
+        tally: none,
         held: 0,
-        output: none,
+        output: output,
+        last: false,
         over: false,
+        error: 0,
     };
     let mut turns = u64::MAX;
     while turns > 0 && !t.over {
         t = one_turn(t, flat, ends, shot, block, out, places);
         turns -= 1;
     }
+    t
+}
+
+// Tells standard error how the run ended.
+pub fn tell(t: Turn) {
+    let state = t.state;
+    let tally = t.tally;
     let output = t.output;
-    failure::tell(output);
+    telling::tell_end(tally, state);
+    telling::tell_read(t.error);
+    if output.failed {
+        telling::tell_write(output.bytes, output.records);
+    }
 }

@@ -1,6 +1,6 @@
 //! The cases: each is an output, or an input, that does not take or give all at once.
 
-use crate::child::{closed_output, no_pipe_signal, said, size_limit, small_pipe, start};
+use crate::child::{closed_output, failure, no_pipe_signal, said, size_limit, small_pipe, start};
 use crate::random::Random;
 use crate::setup::{Setup, Stream};
 use std::fs::{read, File, OpenOptions};
@@ -49,7 +49,7 @@ fn takes_nothing(setup: &Setup, mut command: Command) -> Checked {
     let mut child = start(command.stdin(Stdio::piped()))?;
     let mut to = child.stdin.take().ok_or("no standard input")?;
     let _ = to.write_all(&stream.input[..4000]);
-    same("standard error", said(child)?, stream.truth.told(0))?;
+    same("standard error", failure(&said(child)?), stream.truth.told(0))?;
     same("records answered", stream.truth.answered(0), 0)
 }
 
@@ -70,7 +70,7 @@ fn closed(setup: &Setup) -> Checked {
 fn to_file(setup: &Setup, stream: &Stream, mut command: Command, limit: usize) -> Checked {
     let path = setup.output();
     command.stdin(stream.open()?).stdout(File::create(&path).map_err(words)?);
-    let told = said(start(&mut command)?)?;
+    let told = failure(&said(start(&mut command)?)?);
     prefix(stream, &read(&path).map_err(words)?, limit)?;
     let failed = limit < stream.truth.output.len();
     same("standard error", told, if failed { stream.truth.told(limit) } else { String::new() })
@@ -113,7 +113,7 @@ fn closes_after(setup: &Setup, take: usize) -> Checked {
     let mut output = vec![0; take];
     from.read_exact(&mut output).map_err(words)?;
     drop(from);
-    let told = said(child)?;
+    let told = failure(&said(child)?);
     prefix(&setup.large, &output, take)?;
     let (bytes, records) = numbers(&told).ok_or(format!("standard error: {told:?}"))?;
     same("bytes within what can be taken", (take..truth.output.len()).contains(&bytes), true)?;
@@ -137,9 +137,9 @@ fn slowly(mut from: impl Read + Send + 'static, pause: Duration) -> JoinHandle<R
     })
 }
 
-/// All of the output arrived, and standard error was told nothing.
+/// All of the output arrived, and standard error was told of no failed write.
 fn arrived(stream: &Stream, child: Child, reader: JoinHandle<Result<Vec<u8>, String>>) -> Checked {
-    let told = said(child)?;
+    let told = failure(&said(child)?);
     let output = reader.join().map_err(|_| "the reader failed")??;
     prefix(stream, &output, stream.truth.output.len())?;
     same("standard error", told, String::new())

@@ -5,7 +5,7 @@ use std::io::{self, Read};
 use std::os::fd::{FromRawFd, OwnedFd};
 use std::os::unix::process::{CommandExt, ExitStatusExt};
 use std::process::{Child, Command, Stdio};
-use std::thread::sleep;
+use std::thread::{sleep, spawn};
 use std::time::{Duration, Instant};
 
 const PATIENCE: Duration = Duration::from_secs(60);
@@ -77,8 +77,23 @@ pub fn small_pipe() -> io::Result<(File, OwnedFd)> {
     unsafe { Ok((File::from_raw_fd(ends[0]), OwnedFd::from_raw_fd(ends[1]))) }
 }
 
-/// What the program said on standard error until it ended by itself.
+/// A pipe, the end that is read and the end that is written; a read where there is nothing does not wait.
+pub fn no_wait_pipe() -> io::Result<(OwnedFd, File)> {
+    let mut ends = [0; 2];
+    let made = unsafe { pipe2(&mut ends, O_CLOEXEC) == 0 && fcntl(ends[0], F_SETFL, O_NONBLOCK) == 0 };
+    if !made {
+        return Err(io::Error::last_os_error());
+    }
+    unsafe { Ok((OwnedFd::from_raw_fd(ends[0]), File::from_raw_fd(ends[1]))) }
+}
+
+/// What the program said on standard error until it ended by itself. It is read meanwhile, since a pipe that is full would stop it.
 pub fn said(mut child: Child) -> Result<String, String> {
+    let mut from = child.stderr.take().ok_or("standard error is not read")?;
+    let reader = spawn(move || {
+        let mut text = String::new();
+        from.read_to_string(&mut text).map(|_| text)
+    });
     let start = Instant::now();
     let status = loop {
         if let Some(status) = child.try_wait().map_err(|error| error.to_string())? {
@@ -94,10 +109,12 @@ pub fn said(mut child: Child) -> Result<String, String> {
     if let Some(signal) = status.signal() {
         return Err(format!("ended by signal {signal}"));
     }
-    let mut text = String::new();
-    let mut from = child.stderr.take().ok_or("standard error is not read")?;
-    from.read_to_string(&mut text).map_err(|error| error.to_string())?;
-    Ok(text)
+    reader.join().map_err(|_| "the reader failed")?.map_err(|error| error.to_string())
+}
+
+/// What it said of a write that failed, if one did.
+pub fn failure(told: &str) -> String {
+    told.split_inclusive('\n').filter(|line| line.starts_with("shots: writing failed")).collect()
 }
 
 pub fn start(command: &mut Command) -> Result<Child, String> {

@@ -5,6 +5,7 @@ mod child;
 mod random;
 mod setup;
 mod stream;
+mod told;
 mod truth;
 
 use setup::Setup;
@@ -32,7 +33,7 @@ fn main() -> ExitCode {
 
 /// Every case, or those whose name begins as said.
 fn all(setup: &Setup, only: Option<&String>, tally: &mut [usize; 2]) {
-    for (name, case) in cases::ALL {
+    for (name, case) in cases::ALL.into_iter().chain(told::ALL) {
         if only.is_some_and(|only| !name.starts_with(only)) {
             continue;
         }

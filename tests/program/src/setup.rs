@@ -1,6 +1,6 @@
 //! The program, and streams with what it writes for them when nothing fails.
 
-use crate::child::{said, start};
+use crate::child::{failure, said, start};
 use crate::stream::{bytes, stream, Record};
 use crate::truth::Truth;
 use std::fs::{create_dir_all, read, remove_dir_all, write, File};
@@ -60,7 +60,7 @@ impl Stream {
         let mut command = Command::new(shots);
         command.stdin(File::open(&file).map_err(words)?);
         command.stdout(File::create(&output).map_err(words)?);
-        let told = said(start(&mut command)?)?;
+        let told = failure(&said(start(&mut command)?)?);
         if !told.is_empty() {
             return Err(format!("says {told:?} though nothing failed"));
         }

@@ -1,16 +1,17 @@
 -- `shots::run::run` meets its contract. Assumes nothing.
-use mathlib.Core.Path.{_≡_, _∙_}
-use Prim.Native.Nat.{_≤_, _<_}
-use native.Mathlib.Omega.{arith}
-use borrow.Author.Needs.{needs}
+use Rattle.shots.proofs.Blocks.{Runs, runs-none, runs-more, runs-ran}
+use Rattle.taking.specs.Progress.{isFull}
+use Rattle.records.specs.Lists.{held}
 use lib.ListN.{length}
-use Rattle.shots.specs.Lines.{answerMost}
+use borrow.Author.Tests.{not-true}
+use borrow.Author.Needs.{needs}
+use mathlib.Core.Path.{_≡_, refl, _∙_}
 use Rattle.shots.proofs.run.run.Statement.{statement}
 use Rattle.shots.proofs.run.run.Tie as tie
 
 abbrev Inv-loop : tie.InvT-loop
 Inv-loop flat₀ ends₀ shot₀ block₀ out₀ places₀ t₀ turns₀ flat ends shot block out places t turns =
-    (t .held ≤ length block) × (answerMost ≤ length out) × (0 < length places) × (length flat ≡ length flat₀) × (length ends ≡ length ends₀) × (length shot ≡ length shot₀) × (length block ≡ length block₀) × (length out ≡ length out₀) × (length places ≡ length places₀)
+    Runs (isFull 0 (length out₀) 0 (length places₀)) (held flat₀ ends₀ shot₀) (held flat ends shot) block t × (length flat ≡ length flat₀) × (length ends ≡ length ends₀) × (length shot ≡ length shot₀) × (length block ≡ length block₀) × (length out ≡ length out₀) × (length places ≡ length places₀)
 
 abbrev μ-loop : tie.MeasureT-loop
 μ-loop flat₀ ends₀ shot₀ block₀ out₀ places₀ t₀ turns₀ flat ends shot block out places t turns = turns
@@ -19,10 +20,10 @@ fresh-requires : tie.Need-fresh-requires Inv-loop μ-loop
 fresh-requires c κs = search needs
 
 loop-holds : tie.Need-loop-holds Inv-loop μ-loop
-loop-holds c = search needs
+loop-holds c = (runs-none _ _ _ (c .fresh .result) _ (c .fresh .ensures), refl, refl, refl, refl, refl, refl)
 
 one-turn-requires : tie.Need-one-turn-requires Inv-loop μ-loop
-one-turn-requires c κs = search needs
+one-turn-requires c κs = let l = c .before .before .before .before .before .before .before .before .before .loop in (l .inv .0 .held, l .inv .0 .goes (not-true _ (c .before .before .before .before .before .before .if1 .taken)) .1)
 
 sub-turns : tie.Need-sub-turns Inv-loop μ-loop
 sub-turns c = search needs
@@ -32,33 +33,51 @@ loop-less c = search needs
 
 loop-again : tie.Need-loop-again Inv-loop μ-loop
 loop-again c =
-    let k = c .before .before .before .before .before .before .before .before .before .before .before .before .one-turn .kept in
     let l = c .before .before .before .before .before .before .before .before .before .before .before .before .before .before .before .before .before .before .before .before .before .before .loop in
-    (c .before .before .before .before .before .before .before .before .before .before .before .before .one-turn .ensures .held, omega (arith, l .inv .1, k .1 .1 .1 .1 .1 .0), omega (arith, l .inv .2, k .1 .1 .1 .1 .1 .1 .0), k .1 .0 ∙ l .inv .3, k .1 .1 .0 ∙ l .inv .4, k .1 .1 .1 .0 ∙ l .inv .5, k .1 .1 .1 .1 .0 ∙ l .inv .6, k .1 .1 .1 .1 .1 .0 ∙ l .inv .7, k .1 .1 .1 .1 .1 .1 .0 ∙ l .inv .8)
-
-tell-requires : tie.Need-tell-requires Inv-loop μ-loop
-tell-requires c κs = search needs
+    let r = c .before .before .before .before .before .before .before .before .before .before .before .before .one-turn in
+    (runs-more _ _ _ _ (l .block) _ (l .t) (r .result) (l .inv .0) (not-true _ (c .before .before .before .before .before .before .before .before .before .before .before .before .before .before .before .before .before .before .before .if1 .taken)) (rw (l .inv .5, l .inv .6) at (r .ensures)), r .kept .1 .0 ∙ l .inv .1, r .kept .1 .1 .0 ∙ l .inv .2, r .kept .1 .1 .1 .0 ∙ l .inv .3, r .kept .1 .1 .1 .1 .0 ∙ l .inv .4, r .kept .1 .1 .1 .1 .1 .0 ∙ l .inv .5, r .kept .1 .1 .1 .1 .1 .1 .0 ∙ l .inv .6)
 
 same-length : tie.Need-same-length Inv-loop μ-loop
-same-length c = search needs
+same-length c = c .before .before .before .loop .inv .1
 
 same-length-2 : tie.Need-same-length-2 Inv-loop μ-loop
-same-length-2 c = search needs
+same-length-2 c = c .before .before .before .loop .inv .2
 
 same-length-3 : tie.Need-same-length-3 Inv-loop μ-loop
-same-length-3 c = search needs
+same-length-3 c = c .before .before .before .loop .inv .3
 
 same-length-4 : tie.Need-same-length-4 Inv-loop μ-loop
-same-length-4 c = search needs
+same-length-4 c = c .before .before .before .loop .inv .4
 
 same-length-5 : tie.Need-same-length-5 Inv-loop μ-loop
-same-length-5 c = search needs
+same-length-5 c = c .before .before .before .loop .inv .5
 
 same-length-6 : tie.Need-same-length-6 Inv-loop μ-loop
-same-length-6 c = search needs
+same-length-6 c = c .before .before .before .loop .inv .6
 
 returns : tie.Need-returns Inv-loop μ-loop
-returns c = search needs
+returns c = runs-ran _ _ _ (c .before .before .before .loop .block) (c .before .before .before .loop .t) (c .before .before .before .loop .inv .0)
+
+same-length-7 : tie.Need-same-length-7 Inv-loop μ-loop
+same-length-7 c = c .before .loop .inv .1
+
+same-length-8 : tie.Need-same-length-8 Inv-loop μ-loop
+same-length-8 c = c .before .loop .inv .2
+
+same-length-9 : tie.Need-same-length-9 Inv-loop μ-loop
+same-length-9 c = c .before .loop .inv .3
+
+same-length-10 : tie.Need-same-length-10 Inv-loop μ-loop
+same-length-10 c = c .before .loop .inv .4
+
+same-length-11 : tie.Need-same-length-11 Inv-loop μ-loop
+same-length-11 c = c .before .loop .inv .5
+
+same-length-12 : tie.Need-same-length-12 Inv-loop μ-loop
+same-length-12 c = c .before .loop .inv .6
+
+returns-2 : tie.Need-returns-2 Inv-loop μ-loop
+returns-2 c = runs-ran _ _ _ (c .before .loop .block) (c .before .loop .t) (c .before .loop .inv .0)
 
 pub run-spec : {M : Type 1} → statement M
 run-spec =
@@ -72,11 +91,17 @@ run-spec =
     sub-turns
     loop-less
     loop-again
-    tell-requires
     same-length
     same-length-2
     same-length-3
     same-length-4
     same-length-5
     same-length-6
-    returns)
+    returns
+    same-length-7
+    same-length-8
+    same-length-9
+    same-length-10
+    same-length-11
+    same-length-12
+    returns-2)

@@ -1,0 +1,3 @@
+pub mod Cutting
+pub mod Progress
+pub mod Taking
