@@ -112,7 +112,7 @@ fn whole(bytes: &[u8]) -> u64 {
     if bytes.len() == 0 {
         return 1;
     }
-    rules::whole_length(bytes[0]) as u64
+    reading::whole_length(bytes[0]) as u64
 }
 
 // Refusal 3: the sizes, and what they may be.
