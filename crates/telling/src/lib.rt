@@ -31,7 +31,7 @@ fn tell_first(t: Tally, st: State, refusal: Refusal, bytes: &[u8]) {
     let number = rules::refusal_number(refusal);
     let mut end = add_part(line, 0, b"shots: record", counts::sum(t.records, 1));
     end = add_part(line, end, b" at byte", t.bytes);
-    end = add_part(line, end, b", kind", wants::byte_at(bytes, 0));
+    end = add_part(line, end, b", kind", reading::byte_at(bytes, 0) as u64);
     end = add_part(line, end, b": refused", number as u64);
     end = wants::add_wanted(line, end, st, refusal, bytes);
     tell(line, end);

@@ -2,33 +2,13 @@
 use crate::line::add;
 use crate::line::add_number;
 use crate::line::add_part;
+use reading::byte_at;
+use reading::number;
 use records::Phase;
 use records::Refusal;
 use records::State;
 ghost use Prim.Native.Nat.{_≤_};
 ghost use lib.ListN.{length};
-
-// A byte as a number.
-fn wide(b: u8) -> u64
-    ensures { λ r. ⌜ r ≤ 255 ⌝ }
-{
-    b as u64
-}
-
-// A byte of a record; 0 past its end.
-pub fn byte_at(bytes: &[u8], i: usize) -> u64
-    ensures { λ r. ⌜ r ≤ 255 ⌝ }
-{
-    if i < bytes.len() {
-        return wide(bytes[i]);
-    }
-    0
-}
-
-// A number of a record, two bytes, low byte first.
-fn number_at(bytes: &[u8], i: usize, next: usize) -> u64 {
-    byte_at(bytes, i) + 256 * byte_at(bytes, next)
-}
 
 // How many rows have come, of how many.
 pub fn add_loaded(line: &mut [u8], at: usize, st: State) -> usize
@@ -120,9 +100,9 @@ fn add_sizes(line: &mut [u8], at: usize, bytes: &[u8]) -> usize
     requires { ⌜ at ≤ length (now line) ⌝ }
     ensures { λ r. ⌜ r ≤ length (now (line .exit)) ⌝ }
 {
-    let mut end = add_part(line, at, b" size:", number_at(bytes, 1, 2));
-    end = add_part(line, end, b" qubits,", number_at(bytes, 3, 4));
-    end = add_part(line, end, b" X rows,", number_at(bytes, 5, 6));
+    let mut end = add_part(line, at, b" size:", number(bytes, 1) as u64);
+    end = add_part(line, end, b" qubits,", number(bytes, 3) as u64);
+    end = add_part(line, end, b" X rows,", number(bytes, 5) as u64);
     add(
         line,
         end,
@@ -162,7 +142,7 @@ fn add_range(line: &mut [u8], at: usize, st: State, bytes: &[u8]) -> usize
 {
     let sizes = st.sizes;
     let kind = byte_at(bytes, 0);
-    let k = number_at(bytes, 1, 2);
+    let k = number(bytes, 1) as u64;
     let start = add(line, at, b" range:");
     let end = add_named(line, start, bytes);
     if kind == 2 {
@@ -181,7 +161,7 @@ fn add_twice(line: &mut [u8], at: usize, bytes: &[u8]) -> usize
 {
     let start = add(line, at, b" twice:");
     let named = add_named(line, start, bytes);
-    let end = add_number(line, named, number_at(bytes, 1, 2));
+    let end = add_number(line, named, number(bytes, 1) as u64);
     add(line, end, b" is in this shot already")
 }
 
@@ -190,7 +170,7 @@ fn add_budget(line: &mut [u8], at: usize, bytes: &[u8]) -> usize
     requires { ⌜ at ≤ length (now line) ⌝ }
     ensures { λ r. ⌜ r ≤ length (now (line .exit)) ⌝ }
 {
-    let end = add_part(line, at, b" budget:", byte_at(bytes, 1));
+    let end = add_part(line, at, b" budget:", byte_at(bytes, 1) as u64);
     add(line, end, b" guesses, at most 63 wanted")
 }
 
