@@ -5,6 +5,7 @@
 --   standOf     where the program stands in a block, with these lists of code and shot
 --   Ready       a record is to be taken, the one that the bytes left begin with, and there is room for its answer and its place
 --   Going       what is taken, put and noted lies in the lists; a record is to be taken only where it is ready
+--   recordAt    the bytes of the next record; textOf: the lines of its answer
 --   Answered    the next record is answered: its lines are put, and nothing else of the output changed
 --   Filled      records were taken, their lines put and their places noted; one at least, if one was to be taken
 use mathlib.Core.Path.{_≡_}
