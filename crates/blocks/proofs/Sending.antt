@@ -12,10 +12,11 @@ use Rattle.output.specs.declared.Output.{Output}
 use Rattle.output.specs.Writing.{Flush, Flushed}
 use Rattle.output.proofs.Joining.{flushed-none, flushed-join}
 use Rattle.taking.specs.declared.Progress.{Progress}
-use Rattle.taking.specs.Cutting.{nextOf}
+use Rattle.cutting.specs.Cutting.{nextOf}
 use Rattle.taking.specs.Taking.{Stand, none, linesAll, placesFrom}
-use Rattle.taking.specs.Progress.{isFull, beginOf, standOf, Filled}
-use Rattle.taking.proofs.Nexts.{next-at}
+use Rattle.cutting.specs.Room.{isFull}
+use Rattle.taking.specs.Progress.{beginOf, standOf, Filled}
+use Rattle.cutting.proofs.Nexts.{next-at}
 use Rattle.taking.proofs.Calls.{takes-join, lines-join, places-join, places-long, places-within, places-behind}
 use Rattle.taking.proofs.Longer.{longer, takes-longer}
 use Rattle.blocks.specs.declared.Block.{Block}

@@ -18,9 +18,9 @@ use Rattle.counts.specs.declared.Tally.{Tally}
 use Rattle.output.specs.declared.Output.{Output}
 use Rattle.output.specs.Writing.{Flush, Flushed}
 use Rattle.taking.specs.declared.Progress.{Progress}
-use Rattle.taking.specs.Cutting.{nextOf}
+use Rattle.cutting.specs.Cutting.{nextOf}
 use Rattle.taking.specs.Taking.{Stand, Takes, linesAll, placesFrom}
-use Rattle.taking.specs.Progress.{isFull}
+use Rattle.cutting.specs.Room.{isFull}
 use Rattle.blocks.specs.declared.Block.{Block}
 
 pub record Sent (ended : Bool) (w : Stand) (o : Output) (v : Stand) (p : Output) : Type 0 where

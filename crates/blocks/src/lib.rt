@@ -7,7 +7,7 @@ ghost use mathlib.Core.Bool.{false};
 ghost use Prim.Native.Nat.{_≤_};
 ghost use lib.ListN.{length};
 ghost use Rattle.records.specs.Lists.{held};
-ghost use Rattle.taking.specs.Progress.{isFull};
+ghost use Rattle.cutting.specs.Room.{isFull};
 ghost use Rattle.blocks.specs.Blocks.{begun, Emptied, Begins, Went, Done};
 
 // How far a block is done. taken: the bytes taken. next: those of the next record, 0 where none is to be taken. over: no record follows,
@@ -42,7 +42,7 @@ fn flushed(
         state: state,
         tally: tally,
         taken: p.taken,
-        next: taking::next_length(after.failed | p.over, block, p.taken, ended),
+        next: cutting::next_length(after.failed | p.over, block, p.taken, ended),
         over: p.over,
         output: after,
     }
@@ -96,12 +96,12 @@ pub fn one_block(
 ) -> Block
     ensures { λ r. ⌜ Done ended (isFull 0 (length (now (out .entry))) 0 (length (now (places .entry)))) (begun st tally (held (now (flat .entry)) (now (ends .entry)) (now (shot .entry))) (now (block .entry))) output (held (now (flat .exit)) (now (ends .exit)) (now (shot .exit))) (now (block .entry)) r ⌝ }
 {
-    let full = taking::is_full(0, out.len(), 0, places.len());
+    let full = cutting::is_full(0, out.len(), 0, places.len());
     let mut b = Block {
         state: st,
         tally: tally,
         taken: 0,
-        next: taking::next_length(full | output.failed, block, 0, ended),
+        next: cutting::next_length(full | output.failed, block, 0, ended),
         over: false,
         output: output,
     };

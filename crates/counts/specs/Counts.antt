@@ -1,5 +1,6 @@
 -- Counts of a run.
 --   total    a sum of counts; one that does not fit stays at the largest number
+--   recordMore, codeMore, decodeMore, refusalMore, answerMore  one more of each
 --   tallied  the counts after one more record, of so many bytes and with this answer
 use mathlib.Core.Bool.{cond}
 use Prim.Native.Nat.{ℕ, _+_, _-_, _^_, min}

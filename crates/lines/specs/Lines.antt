@@ -1,8 +1,11 @@
 -- The lines of an answer (document 01, "The program shots"), in ASCII.
+--   lineEnd   a line feed
 --   wordText  a half's word behind a blank
+--   flip      a blank and the qubit's number, where it is flipped
 --   flips     a blank and the number of each flipped qubit, ascending; q is the first one's number
+--   flipText  the flips of a finished half; countText: its four counts
 --   halfLine  the line of a half: its letter, word and four counts, and for a finished half its flips
---   codeLine, refusedLine  the lines of a complete code and of a refusal
+--   codeLine, refusedLine  the lines of a complete code and of a refusal; otherLine: of an answer that is no report
 --   linesOf   the lines of an answer to a record of this kind, with the corrections of the halves and the number of qubits
 --   roomFor   no answer is longer: two lines, with a blank and five digits a flip
 --   Lined     a text was put from element `at` on, and nothing else changed; or there was no room for so many bytes, and nothing did

@@ -18,8 +18,8 @@ use Rattle.counts.specs.declared.Tally.{Tally}
 use Rattle.output.specs.declared.Output.{Output}
 use Rattle.input.specs.declared.Refilled.{Refilled}
 use Rattle.input.specs.Reading.{Refills, Keeps}
-use Rattle.taking.specs.Cutting.{wholeOf, nextOf}
-use Rattle.taking.proofs.Nexts.{next-whole, next-cut}
+use Rattle.cutting.specs.Cutting.{wholeOf, nextOf}
+use Rattle.cutting.proofs.Nexts.{next-whole, next-cut}
 use Rattle.blocks.specs.declared.Block.{Block}
 use Rattle.blocks.specs.Blocks.{Sent, begun, Done}
 use Rattle.blocks.proofs.Sending.{sent-none, sent-join, sent-longer}
@@ -30,45 +30,33 @@ drop-take : (n k : ℕ) (l : List ℕ) → n ≤ length l → drop n (take (n + 
 drop-take n k l h =
     rw (take-add n k l) (drop-at (take n l) (take k (drop n l)) n (length-take-le n l h))
 
--- A turn: bytes are read behind those held, the records of the block taken, and what is left moved to its front.
-module _ (t : Turn) (l k : Lists) (old mid new : List ℕ) (f : Refilled) (full : Bool) (b : Block) (h : ℕ) (fits : t .held ≤ length old) (last : t .last ≡ false) (long : length mid ≡ length old) (q : Refills old mid (t .held) f) (d : Done (f .ended) full (begun (t .state) (t .tally) l (take (f .end) mid)) (t .output) k (take (f .end) mid) b) (m : Keeps mid new (b .taken) (f .end) h) where
-  pub readBytes : List ℕ
-  readBytes = take (f .end - t .held) (drop (t .held) mid)
-
-  end-within : f .end ≤ length mid
-  end-within = omega (arith, q .most fits)
-
+-- A turn: the records of the block are taken, and what is left is moved to its front.
+module _ (t : Turn) (l k : Lists) (old new : List ℕ) (f : Refilled) (full : Bool) (b : Block) (h : ℕ) (fits : f .end ≤ length old) (last : t .last ≡ false) (d : Done (f .ended) full (begun (t .state) (t .tally) l (take (f .end) old)) (t .output) k (take (f .end) old) b) (m : Keeps old new (b .taken) (f .end) h) where
   taken-within : b .taken ≤ f .end
-  taken-within = omega (arith, d .within, length-take-le (f .end) mid end-within)
+  taken-within = omega (arith, d .within, length-take-le (f .end) old fits)
 
-  moved : (h ≡ f .end - b .taken) × (new ≡ take (f .end - b .taken) (drop (b .taken) mid) ++ drop (f .end - b .taken) mid)
-  moved = m .moved taken-within end-within
+  moved : (h ≡ f .end - b .taken) × (new ≡ take (f .end - b .taken) (drop (b .taken) old) ++ drop (f .end - b .taken) old)
+  moved = m .moved taken-within fits
 
-  left-long : length (take (f .end - b .taken) (drop (b .taken) mid)) ≡ h
+  left-long : length (take (f .end - b .taken) (drop (b .taken) old)) ≡ h
   left-long =
-      length-take-le (f .end - b .taken) (drop (b .taken) mid) (omega (arith, length-drop (b .taken) mid, taken-within, end-within)) ∙ sym (moved .0)
+      length-take-le (f .end - b .taken) (drop (b .taken) old) (omega (arith, length-drop (b .taken) old, taken-within)) ∙ sym (moved .0)
 
   -- What is left is what is held.
-  pub turn-rest : take h new ≡ drop (b .taken) (take (f .end) mid)
+  turn-rest : take h new ≡ drop (b .taken) (take (f .end) old)
   turn-rest =
       let e : b .taken + (f .end - b .taken) ≡ f .end = omega (arith, taken-within) in
-      rw (moved .1, take-at (take (f .end - b .taken) (drop (b .taken) mid)) (drop (f .end - b .taken) mid) h left-long) (sym (rw e at (drop-take (b .taken) (f .end - b .taken) mid (omega (arith, taken-within, end-within)))))
+      rw (moved .1, take-at (take (f .end - b .taken) (drop (b .taken) old)) (drop (f .end - b .taken) old) h left-long) (sym (rw e at (drop-take (b .taken) (f .end - b .taken) old (omega (arith, taken-within)))))
 
-  pub turn-input : take (t .held) old ++ readBytes ≡ take (f .end) mid
-  unfolding readBytes
-  turn-input =
-      let e : t .held + (f .end - t .held) ≡ f .end = omega (arith, q .more) in
-      rw (sym (q .stays)) (sym (rw e at (take-add (t .held) (f .end - t .held) mid)))
+  turn-sent : Sent (f .ended) (record { state = t .state; lists = l; tally = t .tally; over = t .last; rest = take (f .end) old }) (t .output) (record { state = b .state; lists = k; tally = b .tally; over = b .over; rest = take h new }) (b .output)
+  turn-sent = rw (last, turn-rest) (d .sent)
 
-  pub turn-sent : Sent (f .ended) (record { state = t .state; lists = l; tally = t .tally; over = t .last; rest = take (t .held) old ++ readBytes }) (t .output) (record { state = b .state; lists = k; tally = b .tally; over = b .over; rest = take h new }) (b .output)
-  turn-sent = rw (turn-input, last, turn-rest) (d .sent)
-
-  pub turn-left : full ≡ false → b .output .failed ≡ false → b .over ≡ false → nextOf (f .ended) (take h new) ≡ 0
+  turn-left : full ≡ false → b .output .failed ≡ false → b .over ≡ false → nextOf (f .ended) (take h new) ≡ 0
   turn-left x y z = rw turn-rest (d .left x y z)
 
-  pub turned : (o : Bool) (x : ℤ) → length new ≡ length mid → o ≡ b .output .failed || b .over || f .ended → Turned full t l old k new (record { state = b .state; tally = b .tally; held = h; output = b .output; last = b .over; over = o; error = x })
+  pub turned : (o : Bool) (x : ℤ) → length new ≡ length old → o ≡ b .output .failed || b .over || f .ended → Turned full t f l old k new (record { state = b .state; tally = b .tally; held = h; output = b .output; last = b .over; over = o; error = x })
   turned o x same e =
-      record { read = readBytes; ended = f .ended; sent = turn-sent; held = omega (arith, same, moved .0, end-within); over = e; left = turn-left }
+      record { sent = turn-sent; held = omega (arith, same, moved .0); over = e; left = turn-left }
 
 -- The block is handed on by its first bytes.
 pub whole-part : (e full : Bool) (st : State) (tally : Tally) (l k : Lists) (mid : List ℕ) (n : ℕ) (o : Output) (b : Block) → Done e full (begun st tally l (take (n - 0) (drop 0 mid))) o k (take (n - 0) (drop 0 mid)) b → Done e full (begun st tally l (take n mid)) o k (take n mid) b
@@ -107,13 +95,20 @@ pub runs-none : (full : Bool) (l : Lists) (block : List ℕ) (st : State) (x : �
 runs-none full l block st x e =
     record { input = []; ended = false; sent = rw e (sent-none false (begun freshState noTally l []) noOutput (omega arith) (omega arith)); goes = λ z. (refl, refl); held = omega arith; left = λ z. let y : _≡_ {A = ℕ} 0 1 = cc in absurd (omega arith) }
 
-pub runs-more : (full : Bool) (l k j : Lists) (block new : List ℕ) (t r : Turn) → Runs full l k block t → t .over ≡ false → Turned full t k block j new r → Runs full l j new r
-runs-more full l k j block new t r s o u =
+-- The bytes that a read gave stand behind those held.
+input-more : (old mid : List ℕ) (held : ℕ) (f : Refilled) → Refills old mid held f → take held old ++ take (f .end - held) (drop held mid) ≡ take (f .end) mid
+input-more old mid held f q =
+    let e : held + (f .end - held) ≡ f .end = omega (arith, q .more) in
+    rw (sym (q .stays)) (sym (rw e at (take-add held (f .end - held) mid)))
+
+pub runs-more : (full : Bool) (l k j : Lists) (block mid new : List ℕ) (t r : Turn) (f : Refilled) → Runs full l k block t → t .over ≡ false → Refills block mid (t .held) f → Turned full t f k mid j new r → Runs full l j new r
+runs-more full l k j block mid new t r f s o q u =
+    let z : Sent (f .ended) (standing t k (take (t .held) block ++ take (f .end - t .held) (drop (t .held) mid))) (t .output) (standing r j (take (r .held) new)) (r .output) = rw (input-more block mid (t .held) f q) (u .sent) in
     record {
-      input = s .input ++ u .read;
-      ended = u .ended;
-      sent = sent-join (sent-longer (u .ended) (u .read) (rw (s .goes o .0) at (s .sent))) (u .sent);
-      goes = λ e. none-over (r .output .failed) (r .last) (u .ended) (sym (u .over) ∙ e);
+      input = s .input ++ take (f .end - t .held) (drop (t .held) mid);
+      ended = f .ended;
+      sent = sent-join (sent-longer (f .ended) (take (f .end - t .held) (drop (t .held) mid)) (rw (s .goes o .0) at (s .sent))) z;
+      goes = λ e. none-over (r .output .failed) (r .last) (f .ended) (sym (u .over) ∙ e);
       held = u .held;
       left = λ e. u .left;
     }

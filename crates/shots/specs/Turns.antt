@@ -1,19 +1,20 @@
--- Block after block. The contract of `read` does not say which bytes it gives, so that of a turn says that there are some.
+-- Block after block. The contract of `read` does not say which bytes it gives, so that of the whole run says that there are some.
 --   noTally, noOutput  nothing is counted, nothing is written
 --   standing           where the program stands between two blocks, with these bytes left
---   Turned             a block more: bytes were read behind those held, its records taken and their lines written; what is left is held
+--   Turned             a block more: the records of the bytes held and read were taken and their lines written; what is left is held
 --   Ran                from a fresh start: the bytes of all reads are the input, of which the records were taken in their order, and the lines of
 --                      all answers handed to the output; if it ended, and the records are not over and no write failed, nothing is left
 use mathlib.Core.Path.{_≡_}
 use mathlib.Core.Bool.{Bool, true, false, _||_}
-use mathlib.Core.List.{List, _++_}
+use mathlib.Core.List.{List}
 use Prim.Native.Nat.{ℕ, _≤_}
 use lib.ListN.{length, take}
 use Rattle.records.specs.Lists.{Lists}
 use Rattle.records.specs.States.{freshState}
 use Rattle.counts.specs.declared.Tally.{Tally}
+use Rattle.input.specs.declared.Refilled.{Refilled}
 use Rattle.output.specs.declared.Output.{Output}
-use Rattle.taking.specs.Cutting.{nextOf}
+use Rattle.cutting.specs.Cutting.{nextOf}
 use Rattle.taking.specs.Taking.{Stand}
 use Rattle.blocks.specs.Blocks.{Sent, begun}
 use Rattle.shots.specs.declared.run.Turn.{Turn}
@@ -27,13 +28,11 @@ noOutput = record { bytes = 0; records = 0; failed = false }
 abbrev pub standing : Turn → Lists → List ℕ → Stand
 standing t l rest = record { state = t .state; lists = l; tally = t .tally; over = t .last; rest = rest }
 
-pub record Turned (full : Bool) (t : Turn) (l : Lists) (old : List ℕ) (k : Lists) (new : List ℕ) (r : Turn) : Type 0 where
-  pub read : List ℕ
-  pub ended : Bool
-  pub sent : Sent ended (standing t l (take (t .held) old ++ read)) (t .output) (standing r k (take (r .held) new)) (r .output)
+pub record Turned (full : Bool) (t : Turn) (f : Refilled) (l : Lists) (old : List ℕ) (k : Lists) (new : List ℕ) (r : Turn) : Type 0 where
+  pub sent : Sent (f .ended) (standing t l (take (f .end) old)) (t .output) (standing r k (take (r .held) new)) (r .output)
   pub held : r .held ≤ length new
-  pub over : r .over ≡ r .output .failed || r .last || ended
-  pub left : full ≡ false → r .output .failed ≡ false → r .last ≡ false → nextOf ended (take (r .held) new) ≡ 0
+  pub over : r .over ≡ r .output .failed || r .last || f .ended
+  pub left : full ≡ false → r .output .failed ≡ false → r .last ≡ false → nextOf (f .ended) (take (r .held) new) ≡ 0
 
 pub record Ran (full : Bool) (l k : Lists) (r : Turn) : Type 0 where
   pub input : List ℕ

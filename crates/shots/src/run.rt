@@ -1,5 +1,6 @@
 // The loop: a block of input at a time, to the end.
 use counts::Tally;
+use input::Refilled;
 use output::Output;
 use records::State;
 ghost use mathlib.Core.Path.{_≡_};
@@ -7,7 +8,7 @@ ghost use mathlib.Core.Bool.{false};
 ghost use Prim.Native.Nat.{_≤_};
 ghost use lib.ListN.{length};
 ghost use Rattle.records.specs.Lists.{held};
-ghost use Rattle.taking.specs.Progress.{isFull};
+ghost use Rattle.cutting.specs.Room.{isFull};
 ghost use Rattle.shots.specs.Turns.{Turned, Ran};
 
 // What passes from block to block: the state, the counts, the bytes held at the front of the next one, what is written, whether the
@@ -22,9 +23,10 @@ pub struct Turn {
     error: i32,
 }
 
-// Reads on behind the bytes held, takes the records, and holds what is left.
+// Takes the records of the bytes held and read, and holds what is left.
 fn one_turn(
     t: Turn,
+    read: Refilled,
     flat: &mut [u16],
     ends: &mut [u16],
     shot: &mut [u8],
@@ -32,13 +34,12 @@ fn one_turn(
     out: &mut [u8],
     places: &mut [usize],
 ) -> Turn
-    requires { ⌜ (t .held ≤ length (now block)) × (t .last ≡ false) ⌝ }
-    ensures { λ r. ⌜ Turned (isFull 0 (length (now (out .entry))) 0 (length (now (places .entry)))) t (held (now (flat .entry)) (now (ends .entry)) (now (shot .entry))) (now (block .entry)) (held (now (flat .exit)) (now (ends .exit)) (now (shot .exit))) (now (block .exit)) r ⌝ }
+    requires { ⌜ (read .end ≤ length (now block)) × (t .last ≡ false) ⌝ }
+    ensures { λ r. ⌜ Turned (isFull 0 (length (now (out .entry))) 0 (length (now (places .entry)))) t read (held (now (flat .entry)) (now (ends .entry)) (now (shot .entry))) (now (block .entry)) (held (now (flat .exit)) (now (ends .exit)) (now (shot .exit))) (now (block .exit)) r ⌝ }
 {
     let st = t.state;
     let tally = t.tally;
     let output = t.output;
-    let read = input::refill(block, t.held);
     let end = read.end;
     let b = blocks::one_block(
         st,
@@ -103,7 +104,8 @@ pub fn run(
     };
     let mut turns = u64::MAX;
     while turns > 0 && !t.over {
-        t = one_turn(t, flat, ends, shot, block, out, places);
+        let read = input::refill(block, t.held);
+        t = one_turn(t, read, flat, ends, shot, block, out, places);
         turns -= 1;
     }
     t

@@ -15,10 +15,12 @@ use Rattle.claim.specs.Calls.{Step}
 use Rattle.counts.specs.declared.Tally.{Tally}
 use Rattle.lines.specs.declared.Put.{Put}
 use Rattle.lines.specs.Lines.{roomFor, Lined}
+use Rattle.cutting.specs.Room.{answerMost, isFull}
+use Rattle.cutting.proofs.Full.{not-full}
 use Rattle.taking.specs.declared.Progress.{Progress}
-use Rattle.taking.specs.Cutting.{nextOf}
+use Rattle.cutting.specs.Cutting.{nextOf}
 use Rattle.taking.specs.Taking.{next}
-use Rattle.taking.specs.Progress.{answerMost, isFull, beginOf, standOf, recordAt, Ready, Going, Answered}
+use Rattle.taking.specs.Progress.{beginOf, standOf, recordAt, Ready, Going, Answered}
 
 -- The next record's bytes are as many as it says.
 pub record-long : (p : Progress) (block : List ℕ) → p .taken + p .next ≤ length block → length (recordAt p block) ≡ p .next
@@ -50,22 +52,6 @@ going false true n m e h = absurd (omega arith)
 going false false n m e h = (refl, refl, e)
 
 -- Room is left where nothing says that there is none.
-pub full-told : (put room noted most : ℕ) → room - put < answerMost → true ≡ isFull put room noted most
-unfolding isFull
-full-told put room noted most h = rw (lt-ltb room (put + answerMost) (omega arith))
-
-pub full-else : (put room noted most : ℕ) → answerMost ≤ room - put → leb most noted ≡ isFull put room noted most
-unfolding isFull
-full-else put room noted most h = rw (le-ltb room (put + answerMost) (omega arith))
-
-pub not-full : (put room noted most : ℕ) → isFull put room noted most ≡ false → (put + answerMost ≤ room) × (noted < most)
-unfolding isFull
-not-full put room noted most e = both (ltb room (put + answerMost)) refl e
-  where
-    both : (b : Bool) → ltb room (put + answerMost) ≡ b → b || leb most noted ≡ false → (put + answerMost ≤ room) × (noted < most)
-    both true t f = let z : _≡_ {A = ℕ} 0 1 = cc in absurd (omega arith)
-    both false t f = (ltb-false room (put + answerMost) t, leb-false most noted f)
-
 -- Another record is ready where nothing stops it.
 pub ready-told : (e : Bool) (r : Progress) (block out : List ℕ) (most : ℕ) (full : Bool) → full ≡ isFull (r .put) (length out) (r .noted) most → r .next ≡ cond (full || r .over) 0 (nextOf e (drop (r .taken) block)) → 0 < r .next → Ready e r block out most
 ready-told e r block out most full f n h =

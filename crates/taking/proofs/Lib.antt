@@ -1,4 +1,3 @@
-pub mod Nexts
 pub mod Answers
 pub mod Calls
 pub mod Loop

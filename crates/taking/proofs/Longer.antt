@@ -9,9 +9,9 @@ use native.Mathlib.Omega.{arith}
 use lib.ListN.{length, length-append, List·getD-append}
 use lib.Seq.{take-append-le, drop-append-le}
 use Rattle.claim.specs.Calls.{Step}
-use Rattle.taking.specs.Cutting.{wholeOf, nextOf}
+use Rattle.cutting.specs.Cutting.{wholeOf, nextOf}
 use Rattle.taking.specs.Taking.{Stand, One, next, Takes, none, more}
-use Rattle.taking.proofs.Nexts.{next-whole, next-cut, next-within}
+use Rattle.cutting.proofs.Nexts.{next-whole, next-cut, next-within}
 
 -- A record that is there whole stays so.
 module _ (e : Bool) (l m : List ℕ) (h : 0 < nextOf false l) where

@@ -14,7 +14,7 @@ use Rattle.claim.specs.Calls.{Step}
 use Rattle.taking.specs.declared.Progress.{Progress}
 use Rattle.taking.specs.Taking.{Stand, One, next, lineOf, Took}
 use Rattle.taking.specs.Progress.{standOf, recordAt, textOf, Ready, Going, Answered}
-use Rattle.taking.proofs.Nexts.{next-at}
+use Rattle.cutting.proofs.Nexts.{next-at}
 use Rattle.taking.proofs.Answers.{answered-stand}
 use Rattle.taking.proofs.Calls.{took-more}
 

@@ -1,17 +1,15 @@
 -- How far a block of input is done.
---   answerMost  the room that an answer is sure to find in the output
---   isFull      another answer, or its place, has no room
 --   beginOf     nothing is put to the output yet
 --   standOf     where the program stands in a block, with these lists of code and shot
 --   Ready       a record is to be taken, the one that the bytes left begin with, and there is room for its answer and its place
 --   Going       what is taken, put and noted lies in the lists; a record is to be taken only where it is ready
+--   recordAt    the bytes of the next record; textOf: the lines of its answer
 --   Answered    the next record is answered: its lines are put, and nothing else of the output changed
 --   Filled      records were taken, their lines put and their places noted; one at least, if one was to be taken
 use mathlib.Core.Path.{_≡_}
-use mathlib.Core.Bool.{Bool, false, cond, _||_}
+use mathlib.Core.Bool.{Bool, false, cond}
 use mathlib.Core.List.{List}
 use Prim.Native.Nat.{ℕ, _+_, _≤_, _<_}
-use lib.Dec.{ltb, leb}
 use lib.ListN.{length, getD, take, drop}
 use lib.Seq.{sets}
 use Rattle.records.specs.declared.State.{State}
@@ -21,15 +19,9 @@ use Rattle.counts.specs.declared.Tally.{Tally}
 use Rattle.counts.specs.Counts.{tallied}
 use Rattle.lines.specs.Lines.{linesOf}
 use Rattle.taking.specs.declared.Progress.{Progress}
-use Rattle.taking.specs.Cutting.{nextOf, isLast}
+use Rattle.cutting.specs.Cutting.{nextOf, isLast}
+use Rattle.cutting.specs.Room.{answerMost, isFull}
 use Rattle.taking.specs.Taking.{Stand, Took}
-
-abbrev pub answerMost : ℕ
-answerMost = 16384
-
--- Another answer, or its place, has no room.
-unfoldable pub isFull : ℕ → ℕ → ℕ → ℕ → Bool
-isFull put room noted most = ltb room (put + answerMost) || leb most noted
 
 -- Nothing of the output is put yet; a record is to be taken where there is one, and room for its answer.
 abbrev pub beginOf : State → Tally → ℕ → Bool → List ℕ → ℕ → ℕ → Progress

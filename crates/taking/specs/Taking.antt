@@ -3,7 +3,8 @@
 --   One         the call takes the record that the bytes left begin with, with state and lists as they stand, and the records are not over
 --   next        where the program stands after the call
 --   Takes       calls one after the other, each of the next record: no record is dropped, taken twice or taken out of its order
---   linesAll    the lines of their answers, with the corrections that each call left; placesFrom: where the lines of each end
+--   lineOf      the lines of a call's answer, with the corrections that the call left
+--   linesAll    those of all calls; placesFrom: where the lines of each end
 --   Took        calls were made, and their lines put to the output, with the place where the lines of each end
 use mathlib.Core.Path.{_≡_}
 use mathlib.Core.Bool.{Bool, false}
@@ -16,7 +17,7 @@ use Rattle.claim.specs.Calls.{Step, step, Keeps}
 use Rattle.counts.specs.declared.Tally.{Tally}
 use Rattle.counts.specs.Counts.{tallied}
 use Rattle.lines.specs.Lines.{linesOf}
-use Rattle.taking.specs.Cutting.{nextOf, isLast}
+use Rattle.cutting.specs.Cutting.{nextOf, isLast}
 
 pub record Stand : Type 0 where
   pub state : State

@@ -1,28 +1,22 @@
 // The answer to a record.
 use crate::Progress;
-use crate::cutting::is_last;
-use crate::cutting::next_length;
-use crate::cutting::next_record;
+use cutting::is_full;
+use cutting::is_last;
+use cutting::next_length;
 use records::Reply;
 ghost use mathlib.Core.Path.{_≡_};
 ghost use Prim.Native.Nat.{_+_, _≤_, _<_};
 ghost use lib.ListN.{length};
-ghost use Rattle.taking.specs.Progress.{isFull, Ready, Answered};
+ghost use Rattle.taking.specs.Progress.{recordAt, Ready, Answered};
 
-// The room that an answer is sure to find in the output: 256 bytes and 6 for each of 2,048 qubits are enough.
-const ANSWER: usize = 16384;
-
-// Whether another answer, or its place, has no room.
-pub fn is_full(put: usize, room: usize, noted: usize, most: usize) -> bool
-    ensures { λ r. ⌜ r ≡ isFull put room noted most ⌝ }
+// The part of a block that the next record occupies.
+pub fn next_record<'a>(p: Progress, block: &'a [u8]) -> &'a [u8]
+    requires { ⌜ p .taken + p .next ≤ length (now block) ⌝ }
+    ensures { λ r. ⌜ now r ≡ recordAt p (now (block .entry)) ⌝ }
 {
-    if room < put {
-        return true;
-    }
-    if room - put < ANSWER {
-        return true;
-    }
-    most <= noted
+    let at = p.taken;
+    let end = at + p.next;
+    &block[at..end]
 }
 
 // The next record is answered: its lines are put to the output, and a refusal that begins a run is told to standard error. x, z: the corrections of the halves. most: the records that have a place.

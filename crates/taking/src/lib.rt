@@ -1,15 +1,14 @@
 // The records of a block of input, one at a time.
 mod answering;
-mod cutting;
 
 use counts::Tally;
+use cutting::is_full;
+use cutting::next_length;
 use records::State;
 ghost use mathlib.Core.Path.{_≡_};
 ghost use lib.ListN.{length};
 ghost use Rattle.records.specs.Lists.{held};
 ghost use Rattle.taking.specs.Progress.{beginOf, Going, Filled};
-pub use answering::is_full;
-pub use cutting::next_length;
 
 // How far a block is done. taken: the bytes of input taken. next: those of the next record, 0 where none is to be taken before what is put
 // is written. put: the bytes of output put. noted: the records that they answer. over: no record follows, here or in a later block.
@@ -71,7 +70,7 @@ fn all_records(
     while p.next > 0 {
         let at = p.noted;
         let st = p.state;
-        let bytes = cutting::next_record(p, block);
+        let bytes = answering::next_record(p, block);
         let reply = stream::step(
             st,
             flat,

@@ -1,7 +1,7 @@
 -- `blocks::one_block` meets its contract. Assumes nothing.
 use Rattle.blocks.proofs.Sending.{sent-none, sent-join, stops-not, block-done}
 use Rattle.blocks.specs.Blocks.{Sent, stand}
-use Rattle.taking.specs.Cutting.{nextOf}
+use Rattle.cutting.specs.Cutting.{nextOf}
 use Rattle.records.specs.Lists.{held}
 use lib.ListN.{length, drop}
 use borrow.Author.Needs.{needs}

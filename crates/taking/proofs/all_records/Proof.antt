@@ -9,7 +9,7 @@ use lib.ListN.{length, length-set}
 use Rattle.records.specs.Lists.{held}
 use Rattle.taking.specs.Taking.{Took}
 use Rattle.taking.specs.Progress.{standOf, Going}
-use Rattle.taking.proofs.Nexts.{next-at}
+use Rattle.cutting.proofs.Nexts.{next-at}
 use Rattle.taking.proofs.Calls.{took-none}
 use Rattle.taking.proofs.Loop.{turn-took, turn-going, turn-onward, turn-within}
 use Rattle.taking.proofs.all_records.Statement.{statement}

@@ -1,14 +1,10 @@
 -- `shots::run::one_turn` meets its contract. Assumes nothing.
 use Rattle.shots.proofs.Blocks.{turned, whole-part}
 use denote.Ref.{now}
-use native.Mathlib.Omega.{arith}
 use mathlib.Core.Path.{refl}
 use borrow.Author.Needs.{needs}
 use Rattle.shots.proofs.run.one_turn.Statement.{statement}
 use Rattle.shots.proofs.run.one_turn.Tie as tie
-
-refill-requires : tie.Need-refill-requires
-refill-requires c κs = search needs
 
 sub-one-block : tie.Need-sub-one-block
 sub-one-block c = search needs
@@ -17,7 +13,7 @@ part-one-block-start : tie.Need-part-one-block-start
 part-one-block-start c = search needs
 
 part-one-block-end : tie.Need-part-one-block-end
-part-one-block-end c = omega (arith, c .before .before .before .before .before .before .refill .ensures .most (c .before .before .before .before .before .before .before .before .before .before .before .before .before .before .before .before .before .pre .0), c .before .before .before .before .before .before .refill .kept .0)
+part-one-block-end c = search needs
 
 one-block-requires : tie.Need-one-block-requires
 one-block-requires c κs = search needs
@@ -35,7 +31,7 @@ same-length-3 : tie.Need-same-length-3
 same-length-3 c = c .before .before .before .before .before .before .before .before .before .before .before .before .before .before .before .before .before .before .before .before .before .one-block .kept .1 .1 .1 .1 .1 .1 .0
 
 same-length-4 : tie.Need-same-length-4
-same-length-4 c = omega (arith, c .before .before .before .before .before .before .keep .kept .0, c .before .before .before .before .before .before .before .before .before .before .before .before .before .before .before .before .before .before .before .before .before .before .before .before .before .before .before .before .before .before .before .refill .kept .0)
+same-length-4 c = c .before .before .before .before .before .before .keep .kept .0
 
 same-length-5 : tie.Need-same-length-5
 same-length-5 c = c .before .before .before .before .before .before .before .before .before .before .before .before .before .before .before .before .before .before .before .before .before .one-block .kept .1 .1 .1 .1 .1 .1 .1 .1 .0
@@ -45,15 +41,13 @@ same-length-6 c = c .before .before .before .before .before .before .before .bef
 
 returns : tie.Need-returns
 returns c =
-    let s = c .before .before .before .before .before .before .before .before .before .before .before .before .before .before .before .before .before .before .before .before .before .before .before .before .before .before .before .before .before .before .before .before .before .before .before .before .before .before .before .before .before .before in
-    let f = c .before .before .before .before .before .before .before .before .before .before .before .before .before .before .before .before .before .before .before .before .before .before .before .before .before .before .before .before .before .before .before .refill in
-    turned (s .args .t) _ _ (now (s .args .block)) (f .last .0) _ (f .result) _ (c .before .before .before .before .before .before .before .before .before .before .before .before .before .before .before .before .before .before .before .before .before .one-block .result) (c .before .before .before .before .before .before .keep .result) (s .pre .0) (s .pre .1) (f .kept .0) (f .ensures) (whole-part _ _ _ _ _ _ (f .last .0) (f .result .end) _ _ (c .before .before .before .before .before .before .before .before .before .before .before .before .before .before .before .before .before .before .before .before .before .one-block .ensures)) (c .before .before .before .before .before .before .keep .ensures) _ _ (c .before .before .before .before .before .before .keep .kept .0) refl
+    let s = c .before .before .before .before .before .before .before .before .before .before .before .before .before .before .before .before .before .before .before .before .before .before .before .before .before .before .before .before .before .before .before .before .before .before .before .before .before .before in
+    turned (s .args .t) _ _ (now (s .args .block)) _ (s .args .read) _ (c .before .before .before .before .before .before .before .before .before .before .before .before .before .before .before .before .before .before .before .before .before .one-block .result) (c .before .before .before .before .before .before .keep .result) (s .pre .0) (s .pre .1) (whole-part _ _ _ _ _ _ (now (s .args .block)) (s .args .read .end) _ _ (c .before .before .before .before .before .before .before .before .before .before .before .before .before .before .before .before .before .before .before .before .before .one-block .ensures)) (c .before .before .before .before .before .before .keep .ensures) _ _ (c .before .before .before .before .before .before .keep .kept .0) refl
 
 pub one-turn-spec : {M : Type 1} → statement M
 one-turn-spec =
     tie.close
     (tie.spec
-    refill-requires
     sub-one-block
     part-one-block-start
     part-one-block-end

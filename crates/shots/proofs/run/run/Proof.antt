@@ -1,10 +1,11 @@
 -- `shots::run::run` meets its contract. Assumes nothing.
 use Rattle.shots.proofs.Blocks.{Runs, runs-none, runs-more, runs-ran}
-use Rattle.taking.specs.Progress.{isFull}
+use Rattle.cutting.specs.Room.{isFull}
 use Rattle.records.specs.Lists.{held}
 use lib.ListN.{length}
 use borrow.Author.Tests.{not-true}
 use borrow.Author.Needs.{needs}
+use native.Mathlib.Omega.{arith}
 use mathlib.Core.Path.{_≡_, refl, _∙_}
 use Rattle.shots.proofs.run.run.Statement.{statement}
 use Rattle.shots.proofs.run.run.Tie as tie
@@ -22,20 +23,26 @@ fresh-requires c κs = search needs
 loop-holds : tie.Need-loop-holds Inv-loop μ-loop
 loop-holds c = (runs-none _ _ _ (c .fresh .result) _ (c .fresh .ensures), refl, refl, refl, refl, refl, refl)
 
+refill-requires : tie.Need-refill-requires Inv-loop μ-loop
+refill-requires c κs = search needs
+
 one-turn-requires : tie.Need-one-turn-requires Inv-loop μ-loop
-one-turn-requires c κs = let l = c .before .before .before .before .before .before .before .before .before .loop in (l .inv .0 .held, l .inv .0 .goes (not-true _ (c .before .before .before .before .before .before .if1 .taken)) .1)
+one-turn-requires c κs =
+    let l = c .before .before .before .before .before .before .before .before .before .before .before .before .before .loop in
+    (omega (arith, c .before .before .before .before .before .before .before .before .refill .ensures .most (l .inv .0 .held), c .before .before .before .before .before .before .before .before .refill .kept .0), l .inv .0 .goes (not-true _ (c .before .before .before .before .before .before .before .before .before .before .if1 .taken)) .1)
 
 sub-turns : tie.Need-sub-turns Inv-loop μ-loop
-sub-turns c = search needs
+sub-turns c = omega (arith, c .before .before .before .before .before .before .before .before .before .before .before .before .before .before .before .before .before .before .before .before .before .before .before .before .before .loop-test .taken)
 
 loop-less : tie.Need-loop-less Inv-loop μ-loop
-loop-less c = search needs
+loop-less c = omega (arith, c .before .before .before .before .before .before .before .before .before .before .before .before .before .before .before .before .before .before .before .before .before .before .before .before .before .loop-test .taken)
 
 loop-again : tie.Need-loop-again Inv-loop μ-loop
 loop-again c =
-    let l = c .before .before .before .before .before .before .before .before .before .before .before .before .before .before .before .before .before .before .before .before .before .before .loop in
+    let l = c .before .before .before .before .before .before .before .before .before .before .before .before .before .before .before .before .before .before .before .before .before .before .before .before .before .before .loop in
     let r = c .before .before .before .before .before .before .before .before .before .before .before .before .one-turn in
-    (runs-more _ _ _ _ (l .block) _ (l .t) (r .result) (l .inv .0) (not-true _ (c .before .before .before .before .before .before .before .before .before .before .before .before .before .before .before .before .before .before .before .if1 .taken)) (rw (l .inv .5, l .inv .6) at (r .ensures)), r .kept .1 .0 ∙ l .inv .1, r .kept .1 .1 .0 ∙ l .inv .2, r .kept .1 .1 .1 .0 ∙ l .inv .3, r .kept .1 .1 .1 .1 .0 ∙ l .inv .4, r .kept .1 .1 .1 .1 .1 .0 ∙ l .inv .5, r .kept .1 .1 .1 .1 .1 .1 .0 ∙ l .inv .6)
+    let f = c .before .before .before .before .before .before .before .before .before .before .before .before .before .before .before .before .before .before .before .before .before .refill in
+    (runs-more _ _ _ _ (l .block) (f .last .0) _ (l .t) (r .result) (f .result) (l .inv .0) (not-true _ (c .before .before .before .before .before .before .before .before .before .before .before .before .before .before .before .before .before .before .before .before .before .before .before .if1 .taken)) (f .ensures) (rw (l .inv .5, l .inv .6) at (r .ensures)), r .kept .1 .1 .0 ∙ l .inv .1, r .kept .1 .1 .1 .0 ∙ l .inv .2, r .kept .1 .1 .1 .1 .0 ∙ l .inv .3, r .kept .1 .1 .1 .1 .1 .0 ∙ (f .kept .0 ∙ l .inv .4), r .kept .1 .1 .1 .1 .1 .1 .0 ∙ l .inv .5, r .kept .1 .1 .1 .1 .1 .1 .1 .0 ∙ l .inv .6)
 
 same-length : tie.Need-same-length Inv-loop μ-loop
 same-length c = c .before .before .before .loop .inv .1
@@ -87,6 +94,7 @@ run-spec =
     μ-loop
     fresh-requires
     loop-holds
+    refill-requires
     one-turn-requires
     sub-turns
     loop-less

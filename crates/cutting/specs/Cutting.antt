@@ -1,4 +1,5 @@
 -- Records in bytes.
+--   wholeOf how many bytes the record has whole that the bytes begin with
 --   nextOf  how many bytes the record has that the bytes begin with: 0 where it is not there whole, and what there is of it where the input has
 --           ended
 --   isLast  the answers after which no record follows: refusal 1, of an unknown kind, and refusal 2, of a record that is cut off

@@ -1,8 +1,8 @@
--- `taking::answering::is_full` meets its contract. Assumes nothing.
+-- `cutting::is_full` meets its contract. Assumes nothing.
 use borrow.Author.Needs.{needs}
-use Rattle.taking.proofs.Answers.{full-told, full-else}
-use Rattle.taking.proofs.answering.is_full.Statement.{statement}
-use Rattle.taking.proofs.answering.is_full.Tie as tie
+use Rattle.cutting.proofs.Full.{full-told, full-else}
+use Rattle.cutting.proofs.is_full.Statement.{statement}
+use Rattle.cutting.proofs.is_full.Tie as tie
 
 returns : tie.Need-returns
 returns c = full-told _ _ _ _ (search needs)

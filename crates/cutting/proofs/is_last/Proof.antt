@@ -1,7 +1,7 @@
--- `taking::cutting::is_last` meets its contract. Assumes nothing.
+-- `cutting::is_last` meets its contract. Assumes nothing.
 use borrow.Author.Needs.{needs}
-use Rattle.taking.proofs.cutting.is_last.Statement.{statement}
-use Rattle.taking.proofs.cutting.is_last.Tie as tie
+use Rattle.cutting.proofs.is_last.Statement.{statement}
+use Rattle.cutting.proofs.is_last.Tie as tie
 
 enum-known-answer : tie.Need-enum-known-answer
 enum-known-answer c = search needs

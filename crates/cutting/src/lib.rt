@@ -1,12 +1,13 @@
-// Records in a block of input.
-use crate::Progress;
+// Records cut out of bytes: how many bytes the next one has, and where they end.
 use records::Answer;
 ghost use mathlib.Core.Path.{_≡_};
 ghost use mathlib.Core.Bool.{cond};
-ghost use Prim.Native.Nat.{_+_, _≤_};
-ghost use lib.ListN.{length, drop};
-ghost use Rattle.taking.specs.Cutting.{nextOf, isLast};
-ghost use Rattle.taking.specs.Progress.{recordAt};
+ghost use lib.ListN.{drop};
+ghost use Rattle.cutting.specs.Cutting.{nextOf, isLast};
+ghost use Rattle.cutting.specs.Room.{isFull};
+
+// The room that an answer is sure to find in the output: 256 bytes and 6 for each of 2,048 qubits are enough.
+const ANSWER: usize = 16384;
 
 // How many bytes the record at `at` has: 0 where more has to be read, and what is left of it where the input has ended.
 fn record_at(bytes: &[u8], at: usize, ended: bool) -> usize
@@ -36,16 +37,6 @@ pub fn next_length(stop: bool, block: &[u8], at: usize, ended: bool) -> usize
     record_at(block, at, ended)
 }
 
-// The part of a block that the next record occupies.
-pub fn next_record<'a>(p: Progress, block: &'a [u8]) -> &'a [u8]
-    requires { ⌜ p .taken + p .next ≤ length (now block) ⌝ }
-    ensures { λ r. ⌜ now r ≡ recordAt p (now (block .entry)) ⌝ }
-{
-    let at = p.taken;
-    let end = at + p.next;
-    &block[at..end]
-}
-
 // Records are over after refusal 1, of an unknown kind, and refusal 2, of a record that is cut off.
 pub fn is_last(answer: Answer) -> bool
     ensures { λ r. ⌜ r ≡ isLast answer ⌝ }
@@ -56,4 +47,17 @@ pub fn is_last(answer: Answer) -> bool
         Answer::Complete(_) => false,
         Answer::Decoded(_) => false,
     }
+}
+
+// Whether another answer, or its place, has no room.
+pub fn is_full(put: usize, room: usize, noted: usize, most: usize) -> bool
+    ensures { λ r. ⌜ r ≡ isFull put room noted most ⌝ }
+{
+    if room < put {
+        return true;
+    }
+    if room - put < ANSWER {
+        return true;
+    }
+    most <= noted
 }

@@ -1,7 +1,7 @@
--- `taking::cutting::next_length` meets its contract. Assumes nothing.
+-- `cutting::next_length` meets its contract. Assumes nothing.
 use borrow.Author.Needs.{needs}
-use Rattle.taking.proofs.cutting.next_length.Statement.{statement}
-use Rattle.taking.proofs.cutting.next_length.Tie as tie
+use Rattle.cutting.proofs.next_length.Statement.{statement}
+use Rattle.cutting.proofs.next_length.Tie as tie
 
 returns : tie.Need-returns
 returns c = search needs

@@ -1,10 +1,10 @@
--- `taking::cutting::record_at` meets its contract. Assumes nothing.
+-- `cutting::record_at` meets its contract. Assumes nothing.
 use mathlib.Core.Bool.{true, false}
 use denote.Ref.{now}
-use Rattle.taking.proofs.Nexts.{at-none, at-whole, at-cut}
+use Rattle.cutting.proofs.Nexts.{at-none, at-whole, at-cut}
 use borrow.Author.Needs.{needs}
-use Rattle.taking.proofs.cutting.record_at.Statement.{statement}
-use Rattle.taking.proofs.cutting.record_at.Tie as tie
+use Rattle.cutting.proofs.record_at.Statement.{statement}
+use Rattle.cutting.proofs.record_at.Tie as tie
 
 sub-left : tie.Need-sub-left
 sub-left c = search needs

@@ -10,7 +10,7 @@ use borrow.Author.Tests.{le-leb, lt-leb}
 use lib.ListN.{length, length-drop, getD, drop}
 use lib.Seq.{getD-drop}
 use Rattle.records.specs.Records.{kindOf, wholeLength}
-use Rattle.taking.specs.Cutting.{wholeOf, nextOf}
+use Rattle.cutting.specs.Cutting.{wholeOf, nextOf}
 
 -- No bytes, no record.
 next-nothing : (ended : Bool) → nextOf ended [] ≡ 0

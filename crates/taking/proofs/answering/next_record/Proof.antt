@@ -1,10 +1,10 @@
--- `taking::cutting::next_record` meets its contract. Assumes nothing.
+-- `taking::answering::next_record` meets its contract. Assumes nothing.
 use native.Mathlib.Omega.{arith}
 use Prim.Native.Nat.{_+_, _-_}
 use mathlib.Core.Path.{_≡_}
 use borrow.Author.Needs.{needs}
-use Rattle.taking.proofs.cutting.next_record.Statement.{statement}
-use Rattle.taking.proofs.cutting.next_record.Tie as tie
+use Rattle.taking.proofs.answering.next_record.Statement.{statement}
+use Rattle.taking.proofs.answering.next_record.Tie as tie
 
 add-end : tie.Need-add-end
 add-end c = search needs
