@@ -1,6 +1,8 @@
 // The program's arguments.
 use libc::STDERR_FILENO;
 use libc::STDOUT_FILENO;
+ghost use mathlib.Core.Path.{_≡_};
+ghost use lib.Dec.{leb};
 
 // Whether a text is the one that is meant.
 fn is_same(text: &[u8], meant: &[u8]) -> bool {
@@ -50,25 +52,32 @@ fn tell_unknown() {
     );
 }
 
-// Answers the arguments, where there are some.
-pub fn answered() -> bool {
-    if os::arg_count() < 2 {
+// Whether the program has arguments, of which the first is its own name; `--help` and `--version` are answered, and any other one too.
+pub fn answered(count: usize) -> bool
+    ensures { λ r. ⌜ r ≡ leb 2 count ⌝ }
+{
+    if count < 2 {
         return false;
     }
+    answer(count);
+    true
+}
+
+// The answer to the arguments.
+fn answer(count: usize) {
     let mut buffer = [0u8; 16];
     let n = os::arg(1, &mut buffer);
-    if os::arg_count() > 2 {
+    if count > 2 {
         tell_unknown();
-        return true;
+        return;
     }
     if is_same(&buffer[..n], b"--help") {
         tell_help();
-        return true;
+        return;
     }
     if is_same(&buffer[..n], b"--version") {
         tell_version();
-        return true;
+        return;
     }
     tell_unknown();
-    true
 }

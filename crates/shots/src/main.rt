@@ -24,7 +24,7 @@ fn read_records() {
 
 // An argument is answered, and nothing is read.
 fn main() {
-    if arguments::answered() {
+    if arguments::answered(os::arg_count()) {
         return;
     }
     read_records();
