@@ -13,10 +13,12 @@ use Rattle.code.proofs.Order.{rows-below}
 use Rattle.commuting.proofs.Sharing.{commute-symmetric}
 use Rattle.machine.specs.declared.HalfReport.{HalfReport}
 use Rattle.machine.specs.Machine.{Half}
-use Rattle.machine.specs.Report.{Shown, outcome}
+use Rattle.machine.specs.Report.{Shown, shown, outcome}
 use Rattle.machine.specs.Lists.{Shows, seen}
+use Rattle.machine.specs.Unread.{before, AllReadLaw}
 use Rattle.machine.specs.Demands.{Obeys, VerdictLaw, CountedLaw, FillingsLaw, ClassesLaw, BudgetsLaw}
 use Rattle.machine.proofs.Demands.{verdict, counted, fillings, classes, budgets}
+use Rattle.machine.proofs.Unread.{all-read}
 use Rattle.machine.proofs.Seen.{seen-is}
 use Rattle.records.specs.declared.Report.{Report}
 use Rattle.records.specs.declared.State.{State}
@@ -24,12 +26,13 @@ use Rattle.records.specs.declared.Refusal.{Refusal}
 use Rattle.records.specs.declared.Answer.{Answer}
 use Rattle.records.specs.declared.Answer.the-variants.{Decoded}
 use Rattle.records.specs.Records.{Pauli, X, Z, lost, Record, report, recordOf}
-use Rattle.records.specs.History.{Code, Shot, History, empty, ready, half}
+use Rattle.records.specs.History.{Code, Shot, History, empty, ready, other, half}
 use Rattle.records.specs.Table.{tests, refusal, Numbered, NumberedLaw, afterwards}
 use Rattle.records.specs.Lists.{Lists, Six, shortLists, shortSix, marks, ShotIn, Holds, Represents}
 use Rattle.records.specs.Promise.{refusalAt, answerOf, Left, Written, Unworked}
 use Rattle.records.proofs.Numbers.{lowest-numbered}
 use Rattle.claim.specs.Calls.{Step, lent, Call, step, Keeps, stateLeft, listsLeft, Run, call, makes, past, Place, at, begins, stateAfter}
+use Rattle.claim.proofs.Unread.{AllRead, past-read}
 use Rattle.claim.specs.Claim.{Told, reportFor, listsFor, shows, Reported, HalfRight, SameHalf, Claim}
 
 ----------------------------------------------------------------------
@@ -104,10 +107,10 @@ told k p =
 ----------------------------------------------------------------------
 -- The halves that a decode reports
 
-lost-below : (stale : Bool) (c : Code) (s : Shot) (shot : List ℕ) → ShotIn stale c s shot → (q : ℕ) → s .lost q ≡ true → q < c .n
+lost-below : (stale : Bool) (c : Code) (s : Shot) (shot : List ℕ) → ShotIn stale c s shot → (q : ℕ) → s .sets lost q ≡ true → q < c .n
 lost-below true c s shot v q t = never t (ap (λ (f : Qubits). f q) (v lost))
 lost-below false c s shot v q t =
-    let e : marks (c .n) 0 shot q ≡ true = sym (ap (λ (f : Qubits). f q) (v .sets lost)) ∙ t in
+    let e : marks 1 (c .n) 0 shot q ≡ true = sym (ap (λ (f : Qubits). f q) (v .sets lost)) ∙ t in
     ltb→lt q (c .n) (subst T (sym (and-out (ltb q (c .n)) _ e .0)) tt)
 
 -- The halves of a code and shot that state and lists hold obey document 01.
@@ -188,6 +191,10 @@ same-half : (h : Half) → Obeys h → (budget limit budget′ limit′ : ℕ) �
 unfolding BudgetsLaw
 same-half h good budget limit budget′ limit′ i j = budgets h good budget budget′ limit limit′ i j
 
+half-read : (h : Half) → ((i : ℕ) → h .unread i ≡ false) → (budget limit : ℕ) → outcome h budget limit ≡ shown (h .size) (before h budget limit)
+unfolding AllReadLaw
+half-read h read = all-read h read .outcome
+
 pub claim : Claim
 claim =
     record {
@@ -203,4 +210,7 @@ claim =
           let z′ = shown-as k′ p′ c s budget′ limit′ r′ v′ in
           subst (λ (x : Shown). SameHalf x (shows b c r′ k′)) (sym (z .same b))
           (subst (SameHalf (outcome (half b c s) budget limit)) (sym (z′ .same b)) (same-half (half b c s) (z .obeyed b) budget limit budget′ limit′ i j));
+      before = λ k p c s budget limit r v read b.
+          let unmarked : AllRead (ready c s) = subst AllRead (v .at) (past-read (p .lists) empty (p .before) read tt) in
+          shown-as k p c s budget limit r v .same b ∙ half-read (half b c s) (λ i. ap (λ (f : ℕ → Bool). f i) (unmarked (other b))) budget limit;
     }

@@ -6,12 +6,14 @@ use mathlib.Core.Path.{_≡_}
 use mathlib.Core.Bool.{true, false}
 use mathlib.Core.Logic.{_⊎_}
 use Prim.Native.Nat.{ℕ, _≤_}
+use Rattle.binary.specs.Meaning.{All}
 use Rattle.machine.specs.declared.Word.the-variants.{None}
 use Rattle.machine.specs.declared.HalfReport.{HalfReport}
 use Rattle.machine.specs.Words.{finished?}
 use Rattle.machine.specs.Machine.{Half, isOpen}
-use Rattle.machine.specs.Report.{Shown}
+use Rattle.machine.specs.Report.{Shown, shown}
 use Rattle.machine.specs.Lists.{HalfLists, seen}
+use Rattle.machine.specs.Unread.{before}
 use Rattle.machine.specs.Demands.{Verdict, Counted, Fillings, Classes}
 use Rattle.records.specs.declared.Report.{Report}
 use Rattle.records.specs.declared.Answer.the-variants.{Decoded}
@@ -20,7 +22,7 @@ use Rattle.records.specs.History.{Code, Shot, History, ready, half}
 use Rattle.records.specs.Table.{Numbered}
 use Rattle.records.specs.Lists.{Lists, Six, Represents}
 use Rattle.records.specs.Promise.{refusalAt, testsAt, answerOf, Left, Written, Unworked}
-use Rattle.claim.specs.Calls.{Step, lent, Call, step, stateLeft, listsLeft, makes, Place, at, begins, stateAfter}
+use Rattle.claim.specs.Calls.{Step, lent, Call, step, stateLeft, listsLeft, makes, Place, at, begins, stateAfter, Read}
 
 ----------------------------------------------------------------------
 -- One call
@@ -82,3 +84,6 @@ pub record Claim : Type 0 where
   pub same : (k k′ : Step) (p : Place (step k)) (p′ : Place (step k′)) (c : Code) (s : Shot) (budget limit budget′ limit′ : ℕ) (r r′ : Report)
       → Reported (at p) k c s budget limit r → Reported (at p′) k′ c s budget′ limit′ r′ → budget ≤ budget′ → limit ≤ limit′
       → (b : Pauli) → SameHalf (shows b c r k) (shows b c r′ k′)
+  -- Without records of kinds 6 and 7 before it, each half that a decode reports comes out as document 01 alone has it, every row read.
+  pub before : (k : Step) (p : Place (step k)) (c : Code) (s : Shot) (budget limit : ℕ) (r : Report) → Reported (at p) k c s budget limit r
+      → All Read (p .before) → (b : Pauli) → shows b c r k ≡ shown (c .n) (before (half b c s) budget limit)

@@ -25,7 +25,7 @@ use Rattle.halves.specs.Lists.{halfOf}
 use Rattle.halves.specs.Decode.{Given, fitting, Decodes}
 use Rattle.records.specs.declared.Sizes.{Sizes}
 use Rattle.records.specs.declared.Report.{Report}
-use Rattle.records.specs.Records.{Pauli, X, Z, lost, lit}
+use Rattle.records.specs.Records.{Pauli, X, Z, lost, lit, unread}
 use Rattle.records.specs.History.{Code, sizesOf, Shot, half}
 use Rattle.records.specs.Lists.{Lists, Six, marks, HeldShot}
 use Rattle.records.proofs.Range.{InRange, LongLists, LongHalf}
@@ -97,19 +97,19 @@ both-fit z budget limit l work six m few o x-long z-long =
 ----------------------------------------------------------------------
 -- What the lists hold of a half
 
-same-half : (n : ℕ) {rows rows′ others others′ : List Row} {f f′ g g′ : ℕ → Bool} → rows ≡ rows′ → others ≡ others′ → f ≡ f′ → g ≡ g′
-    → _≡_ {A = Half} (record { size = n; rows = rows; others = others; lost = f; lit = g }) (record { size = n; rows = rows′; others = others′; lost = f′; lit = g′ })
-same-half n a b d e = rw (a, b, d, e)
+same-half : (n : ℕ) {rows rows′ others others′ : List Row} {f f′ g g′ u u′ : ℕ → Bool} → rows ≡ rows′ → others ≡ others′ → f ≡ f′ → g ≡ g′ → u ≡ u′
+    → _≡_ {A = Half} (record { size = n; rows = rows; others = others; lost = f; lit = g; unread = u }) (record { size = n; rows = rows′; others = others′; lost = f′; lit = g′; unread = u′ })
+same-half n a b d e i = rw (a, b, d, e, i)
 
-listed-marks : (n : ℕ) (l : List ℕ) → listed n l ≡ marks n 0 l
+listed-marks : (n : ℕ) (l : List ℕ) → listed n l ≡ marks 1 n 0 l
 unfolding listed
 listed-marks n l = fun-ext (λ i. ap (λ (k : ℕ). ltb i n && eqb (getD l k 0) 1) (sym (zero-add i)))
 
 -- A row's element is its reading.
-readings-marks : (count first : ℕ) (shot : List ℕ) → (λ i. ltb i count && eqb (getD (readingsOf shot) (first + i) 0) 1) ≡ marks count (1024 + first) shot
+readings-marks : (e count first : ℕ) (shot : List ℕ) → (λ i. ltb i count && eqb (getD (readingsOf shot) (first + i) 0) e) ≡ marks e count (1024 + first) shot
 unfolding readingsOf
-readings-marks count first shot =
-    fun-ext (λ i. ap (λ (k : ℕ). ltb i count && eqb k 1) (getD-drop 1024 shot (first + i) 0 ∙ ap (λ (k : ℕ). getD shot k 0) (sym (add-assoc 1024 first i))))
+readings-marks e count first shot =
+    fun-ext (λ i. ap (λ (k : ℕ). ltb i count && eqb k e) (getD-drop 1024 shot (first + i) 0 ∙ ap (λ (k : ℕ). getD shot k 0) (sym (add-assoc 1024 first i))))
 
 -- The halves of a code and shot that lists hold.
 module _ (c : Code) (s : Shot) (l : Lists) (f : Flat (c .xs ++ c .zs) (l .flat) (l .ends)) (v : HeldShot c s (l .shot)) (budget limit : ℕ) where
@@ -129,10 +129,12 @@ module _ (c : Code) (s : Shot) (l : Lists) (f : Flat (c .xs ++ c .zs) (l .flat) 
   pub shown-held : (p : Pauli) → shownOf (givenOf p (sizesOf c) l budget limit) ≡ outcome (half p c s) budget limit
   shown-held X =
       ap (λ (h : Half). outcome h budget limit) (same-half (c .n) z-rows x-rows (listed-marks (c .n) (l .shot) ∙ sym (v .sets lost))
-      (readings-marks (length (c .zs)) (length (c .xs)) (l .shot) ∙ sym (v .sets (lit Z))))
+      (readings-marks 1 (length (c .zs)) (length (c .xs)) (l .shot) ∙ sym (v .sets (lit Z)))
+      (readings-marks 2 (length (c .zs)) (length (c .xs)) (l .shot) ∙ sym (v .sets (unread Z))))
   shown-held Z =
       ap (λ (h : Half). outcome h budget limit) (same-half (c .n) x-rows z-rows (listed-marks (c .n) (l .shot) ∙ sym (v .sets lost))
-      (readings-marks (length (c .xs)) 0 (l .shot) ∙ sym (v .sets (lit X))))
+      (readings-marks 1 (length (c .xs)) 0 (l .shot) ∙ sym (v .sets (lit X)))
+      (readings-marks 2 (length (c .xs)) 0 (l .shot) ∙ sym (v .sets (unread X))))
 
   pub good-rows : (p : Pauli) → All (Ascending (c .n)) (c .xs) → All (Ascending (c .n)) (c .zs) → GoodRows (givenOf p (sizesOf c) l budget limit)
   good-rows X xs zs = record { own = subst (All (Ascending (c .n))) (sym z-rows) zs; others = subst (All (Ascending (c .n))) (sym x-rows) xs }

@@ -1,7 +1,7 @@
 -- A half whose marks are the start's ends as the machine's. Assumes nothing.
 use mathlib.Core.Path.{_≡_, refl, sym, ap, ap₂, _∙_, subst}
-use mathlib.Core.Bool.{Bool, _&&_}
-use mathlib.Core.List.{List, _∷_}
+use mathlib.Core.Bool.{Bool, not, _&&_}
+use mathlib.Core.List.{List}
 use Prim.Native.Nat.{ℕ, zero, suc, _+_}
 use native.Mathlib.Nat.{add-zero}
 use native.Mathlib.Omega.{arith}
@@ -12,7 +12,7 @@ use Rattle.binary.specs.Meaning.{Qubits, Check, All, fixed?}
 use Rattle.binary.specs.Words.{listed}
 use Rattle.code.specs.Lists.{rowAt, rowsFrom}
 use Rattle.code.specs.Tests.{Ascending}
-use Rattle.machine.specs.Machine.{isOpen, closed?, takeUpAll, blank, stage, startMark, start, degree, most, run, readings, checks, decoded}
+use Rattle.machine.specs.Machine.{isOpen, closed?, takeUpAll, blank, stage, startMark, start, degree, most, run, keepIf, readings, checks, decoded}
 use Rattle.turns.specs.Lists.{checksFrom}
 use Rattle.turns.specs.Turns.{RowLists, rowChecks}
 use Rattle.turns.specs.Runs.{endOf}
@@ -21,18 +21,24 @@ use Rattle.halves.specs.Starts.{Started, halfIn}
 ----------------------------------------------------------------------
 -- The half's checks
 
+-- The rows of which a list has element e.
+abbrev elements : List ℕ → ℕ → ℕ → ℕ → ℕ → Bool
+elements lit first count e j = ltb j count && eqb (getD lit (first + j) 0) e
+
 readings-are : (flat ends lit : List ℕ) (first count i k : ℕ) → i + k ≡ count
-    → readings i (λ j. ltb j count && eqb (getD lit (first + j) 0) 1) (rowsFrom flat ends (first + i) k) ≡ checksFrom flat ends lit (first + i) k
+    → readings i (elements lit first count 1) (elements lit first count 2) (rowsFrom flat ends (first + i) k) ≡ checksFrom flat ends lit (first + i) k
 readings-are flat ends lit first count i zero e = refl
 readings-are flat ends lit first count i (suc k) e =
     let next : first + suc i ≡ suc (first + i) = omega arith in
-    ap₂ _∷_ (ap (λ (b : Bool). record { lit = b && eqb (getD lit (first + i) 0) 1; row = rowAt flat ends (first + i) }) (lt-ltb i count (omega arith)))
-    (subst (λ (r : ℕ). readings (suc i) (λ j. ltb j count && eqb (getD lit (first + j) 0) 1) (rowsFrom flat ends r k) ≡ checksFrom flat ends lit r k) next
-    (readings-are flat ends lit first count (suc i) k (omega arith)))
+    let at = getD lit (first + i) 0 in
+    let row = rowAt flat ends (first + i) in
+    let rest = subst (λ (r : ℕ). readings (suc i) (elements lit first count 1) (elements lit first count 2) (rowsFrom flat ends r k) ≡ checksFrom flat ends lit r k) next
+    (readings-are flat ends lit first count (suc i) k (omega arith)) in
+    ap₂ (λ (b : Bool) (cs : List Check). keepIf (not (b && eqb at 2)) (record { lit = b && eqb at 1; row = row }) cs) (lt-ltb i count (omega arith)) rest
 
 checks-are : (n : ℕ) (c : RowLists) (lost : List ℕ) (other others : ℕ) → checks (halfIn n c lost other others) ≡ rowChecks c
 checks-are n c lost other others =
-    subst (λ (r : ℕ). readings 0 (λ j. ltb j (c .count) && eqb (getD (c .lit) (c .first + j) 0) 1) (rowsFrom (c .flat) (c .ends) r (c .count)) ≡ checksFrom (c .flat) (c .ends) (c .lit) r (c .count))
+    subst (λ (r : ℕ). readings 0 (elements (c .lit) (c .first) (c .count) 1) (elements (c .lit) (c .first) (c .count) 2) (rowsFrom (c .flat) (c .ends) r (c .count)) ≡ checksFrom (c .flat) (c .ends) (c .lit) r (c .count))
     (add-zero (c .first)) (readings-are (c .flat) (c .ends) (c .lit) (c .first) (c .count) 0 (c .count) (omega arith))
 
 ----------------------------------------------------------------------

@@ -13,7 +13,7 @@ use Rattle.binary.proofs.Bits.{bit, never, below-out, not-out}
 use Rattle.machine.specs.declared.Word.{Word}
 use Rattle.machine.specs.declared.Word.the-variants.{Certain, Unsure, None, Spent, Stopped}
 use Rattle.machine.specs.Words.{finished?}
-use Rattle.machine.specs.Machine.{Form, Forms, blank, State, Stage, on, failed, End, Half, readings, checks, fixedOf, ruleOf, startOf, decoded, start, startMark, isOpen, closed?, dangling, degree, takeUpAll, stage, turn, noneOpen}
+use Rattle.machine.specs.Machine.{Form, Forms, blank, State, Stage, on, failed, End, Half, keepIf, readings, checks, fixedOf, ruleOf, startOf, decoded, start, startMark, isOpen, closed?, dangling, degree, takeUpAll, stage, turn, noneOpen}
 use Rattle.machine.specs.Fillings.{filling}
 use Rattle.machine.specs.Report.{Shown, shown, outcome, none?}
 use Rattle.machine.specs.Demands.{Obeys, FitsHalf, VerdictLaw, Fillings, FillingsLaw, ClassesLaw, BudgetsLaw, turnOf, turned, stageOf, CountsLaw, CountedLaw, EmptiedLaw}
@@ -43,10 +43,15 @@ is-none w e i = never (ap none? i) e
 pub rule-of : (h : Half) → Rule (h .size) (ruleOf h)
 rule-of h = most-rule (degree (checks h)) (h .size)
 
-pub commuting : (others : List Row) (i : ℕ) (lit : ℕ → Bool) (rows : List Row) → All (λ r. All (Even r) others) rows
-    → Commuting others (readings i lit rows)
-commuting others i lit [] e = tt
-commuting others i lit (r ∷ rows) e = (e .0, commuting others (suc i) lit rows (e .1))
+pub commuting : (others : List Row) (i : ℕ) (lit unread : ℕ → Bool) (rows : List Row) → All (λ r. All (Even r) others) rows
+    → Commuting others (readings i lit unread rows)
+commuting others i lit unread [] e = tt
+commuting others i lit unread (r ∷ rows) e = go (not (unread i)) (commuting others (suc i) lit unread rows (e .1))
+  where
+    go : (b : Bool) → Commuting others (readings (suc i) lit unread rows)
+        → Commuting others (keepIf b (record { lit = lit i; row = r }) (readings (suc i) lit unread rows))
+    go true v = (e .0, v)
+    go false v = v
 
 start-turns : (cs : List Check) (lost fixed : Qubits) → turnsOf (start cs lost fixed) ≡ 0
 unfolding start
@@ -126,7 +131,7 @@ fillings h obeys budget limit some-word = all-of (outcome h budget limit) (outco
 
 module _ (h : Half) (obeys : Obeys h) where
   even : Commuting (h .others) (checks h)
-  even = commuting (h .others) 0 (h .lit) (h .rows) (obeys .commute)
+  even = commuting (h .others) 0 (h .lit) (h .unread) (h .rows) (obeys .commute)
 
   -- No open qubit below n: none at all.
   shut-all : (st : State) → Good (checks h) (h .lost) (fixedOf h) (on st) → noneOpen (checks h) (h .size) (ruleOf h) st ≡ true

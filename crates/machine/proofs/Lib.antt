@@ -10,3 +10,4 @@ pub mod Counts
 pub mod Verdicts
 pub mod Demands
 pub mod Seen
+pub mod Unread

@@ -1,6 +1,8 @@
--- The bench shots P1 to P12 (document 01, "Bench shots"): one listed check on the meanings, of the X half.
---   Bench       a row of the check: code, shot and limits, and what comes out: word, the four counts and the flips
---   BenchLaw    each row comes out as listed
+-- The bench shots P1 to P12 (document 01, "Bench shots"): one listed check on the meanings, of the X half; and a second one, of shots with unread
+-- rows (document 02, request a).
+--   Bench           a row of the check: code, shot and limits, and what comes out: word, the four counts and the flips
+--   BenchLaw        each row of P1 to P12 comes out as listed
+--   UnreadBenchLaw  each row of the second check does
 use mathlib.Core.Path.{_≡_}
 use mathlib.Core.List.{List, [], _∷_, _++_, map}
 use Prim.Native.Nat.{ℕ, zero, suc}
@@ -33,8 +35,8 @@ abbrev said : Word → ℕ → ℕ → ℕ → ℕ → HalfReport
 said word fixed turns guesses live = record { word = word; fixed = fixed; turns = turns; guesses = guesses; live = live }
 
 -- The X half: its errors are found from the Z rows.
-abbrev xHalf : ℕ → List Row → List Row → List ℕ → List ℕ → Half
-xHalf n xs zs lost lit = record { size = n; rows = zs; others = xs; lost = has lost; lit = has lit }
+abbrev xHalf : ℕ → List Row → List Row → List ℕ → List ℕ → List ℕ → Half
+xHalf n xs zs lost lit unread = record { size = n; rows = zs; others = xs; lost = has lost; lit = has lit; unread = has unread }
 
 abbrev four : List Row
 four = (0 ∷ 1 ∷ 2 ∷ 3 ∷ []) ∷ []
@@ -44,20 +46,21 @@ seven = (0 ∷ 2 ∷ 4 ∷ 6 ∷ []) ∷ (1 ∷ 2 ∷ 5 ∷ 6 ∷ []) ∷ (3 ∷
 
 abbrev onFour : List ℕ → List ℕ → ℕ → ℕ → HalfReport → List ℕ → Bench
 onFour lost lit budget limit report flips =
-    record { half = xHalf 4 four four lost lit; budget = budget; limit = limit; report = report; flips = flips }
+    record { half = xHalf 4 four four lost lit []; budget = budget; limit = limit; report = report; flips = flips }
 
 abbrev onSeven : List ℕ → List ℕ → HalfReport → List ℕ → Bench
 onSeven lost lit report flips =
-    record { half = xHalf 7 seven seven lost lit; budget = 1; limit = 100; report = report; flips = flips }
+    record { half = xHalf 7 seven seven lost lit []; budget = 1; limit = 100; report = report; flips = flips }
 
-abbrev p12 : Bench
-p12 =
+-- n = 2, Z rows 0 1 and 0 1, no X row, 0 lost, row 0 lit.
+abbrev onTwice : List ℕ → HalfReport → List ℕ → Bench
+onTwice unread report flips =
     record {
-      half = xHalf 2 [] ((0 ∷ 1 ∷ []) ∷ (0 ∷ 1 ∷ []) ∷ []) (0 ∷ []) (0 ∷ []);
+      half = xHalf 2 [] ((0 ∷ 1 ∷ []) ∷ (0 ∷ 1 ∷ []) ∷ []) (0 ∷ []) (0 ∷ []) unread;
       budget = 1;
       limit = 100;
-      report = said None 0 1 0 0;
-      flips = [];
+      report = report;
+      flips = flips;
     }
 
 unfoldable pub bench : List Bench
@@ -73,8 +76,36 @@ bench =
     ∷ onSeven (0 ∷ 1 ∷ 2 ∷ []) (0 ∷ []) (said Unsure 0 3 1 1) (0 ∷ [])
     ∷ onSeven (0 ∷ 2 ∷ 4 ∷ 6 ∷ []) (0 ∷ 1 ∷ 2 ∷ []) (said Certain 1 3 1 0) (6 ∷ [])
     ∷ onSeven (0 ∷ 2 ∷ 4 ∷ 6 ∷ []) (0 ∷ []) (said Certain 1 3 1 0) (2 ∷ 4 ∷ 6 ∷ [])
-    ∷ p12
+    ∷ onTwice [] (said None 0 1 0 0) []
     ∷ []
 
 unfoldable pub BenchLaw : Type 0
 BenchLaw = map comes bench ≡ map listed bench
+
+----------------------------------------------------------------------
+-- Unread rows
+
+abbrev unreadFour : List ℕ → List ℕ → ℕ → HalfReport → List ℕ → Bench
+unreadFour lost unread budget report flips =
+    record { half = xHalf 4 four four lost [] unread; budget = budget; limit = 100; report = report; flips = flips }
+
+abbrev unreadSeven : List ℕ → List ℕ → List ℕ → ℕ → HalfReport → List ℕ → Bench
+unreadSeven lost lit unread budget report flips =
+    record { half = xHalf 7 seven seven lost lit unread; budget = budget; limit = 100; report = report; flips = flips }
+
+-- P2's and P12's lit row unread: no longer none. The only check of a lost qubit unread: a guess. All rows unread: with nothing lost certain, with a
+-- qubit lost that no product fixes unsure, with every product lost still one fixed qubit for each.
+unfoldable pub unreadBench : List Bench
+unreadBench =
+    unreadFour [] (0 ∷ []) 0 (said Certain 0 0 0 0) []
+    ∷ onTwice (0 ∷ []) (said Certain 0 1 0 0) []
+    ∷ onTwice (1 ∷ []) (said Certain 0 1 0 0) (0 ∷ [])
+    ∷ unreadFour (2 ∷ []) (0 ∷ []) 1 (said Unsure 0 1 1 1) []
+    ∷ unreadFour (2 ∷ []) (0 ∷ []) 0 (said Spent 0 0 0 0) []
+    ∷ unreadFour (0 ∷ 1 ∷ 2 ∷ 3 ∷ []) (0 ∷ []) 3 (said Unsure 1 3 3 3) []
+    ∷ unreadSeven [] [] (0 ∷ 1 ∷ 2 ∷ []) 0 (said Certain 0 0 0 0) []
+    ∷ unreadSeven (0 ∷ 1 ∷ []) (1 ∷ []) (0 ∷ []) 1 (said Unsure 0 2 1 1) (1 ∷ [])
+    ∷ []
+
+unfoldable pub UnreadBenchLaw : Type 0
+UnreadBenchLaw = map comes unreadBench ≡ map listed unreadBench

@@ -5,3 +5,4 @@ pub mod Report
 pub mod Lists
 pub mod Bench
 pub mod Demands
+pub mod Unread

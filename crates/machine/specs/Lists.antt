@@ -1,4 +1,5 @@
 -- What the lists of a half show (document 01, "Lists lent to a decode").
+--   lit?         whether a row is lit, by its element; unread?: whether it is unread
 --   view         a list read as a function of the qubits below n, and 0 elsewhere
 --   formsOf      the forms that a list of 64-bit words holds: bit k of a form is bit k of its word
 --   HalfLists    the three lists lent to a half: marks, forms, correction
@@ -16,6 +17,13 @@ use Rattle.binary.specs.Words.{bit}
 use Rattle.machine.specs.declared.HalfReport.{HalfReport}
 use Rattle.machine.specs.Machine.{Form}
 use Rattle.machine.specs.Report.{Shown}
+
+-- A row's element: 0 read and zero, 1 lit, 2 unread.
+abbrev pub lit? : ℕ → Bool
+lit? e = eqb e 1
+
+abbrev pub unread? : ℕ → Bool
+unread? e = eqb e 2
 
 abbrev pub view : ℕ → List ℕ → ℕ → ℕ
 view n l q = cond (ltb q n) (getD l q 0) 0

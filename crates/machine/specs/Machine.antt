@@ -10,6 +10,7 @@
 --   turn         the lowest dangling row's open qubit gets the row's side, or a qubit becomes a new live guess
 --   run          turns until a test ends the half
 --   most         the open qubit on most rows, the lowest of equals
+--   checks       the half's rows that were read, with their readings
 --   decoded      how the half of a code and a shot ends, with a guess budget and a turn limit
 -- The machine takes the rule by which the guessed qubit is chosen as a parameter.
 use mathlib.Core.Bool.{Bool, true, false, not, _&&_, cond}
@@ -57,11 +58,11 @@ put p v f q = cond (eqb p q) v (f q)
 abbrev pub side : Forms → Check → Form
 side fs c k = (c .lit && eqb k 0) ⊕ odd (λ q. fs .form q k) (c .row)
 
--- The qubits of a row that lie in a set.
-abbrev pub keepIf : Bool → ℕ → List ℕ → List ℕ
-keepIf true q r = q ∷ r
-keepIf false q r = r
+abbrev pub keepIf : {A : Type 0} → Bool → A → List A → List A
+keepIf true a l = a ∷ l
+keepIf false a l = l
 
+-- The qubits of a row that lie in a set.
 abbrev pub part : Qubits → Row → List ℕ
 part o [] = []
 part o (q ∷ r) = keepIf (o q) q (part o r)
@@ -242,20 +243,23 @@ most deg (suc n) o = better (o n) deg n (most deg n o)
 -- The half of a code and a shot
 
 -- What a half is decoded from. X errors are found from the Z rows, and the X rows are then the other kind; Z errors the other way round.
+-- A row is unread when its helper atom was lost.
 pub record Half : Type 0 where
   pub size : ℕ
   pub rows : List Row
   pub others : List Row
   pub lost : Qubits
   pub lit : ℕ → Bool
+  pub unread : ℕ → Bool
 
-abbrev pub readings : ℕ → (ℕ → Bool) → List Row → List Check
-readings i lit [] = []
-readings i lit (r ∷ rs) = record { lit = lit i; row = r } ∷ readings (suc i) lit rs
+-- From row i on.
+abbrev pub readings : ℕ → (ℕ → Bool) → (ℕ → Bool) → List Row → List Check
+readings i lit unread [] = []
+readings i lit unread (r ∷ rs) = keepIf (not (unread i)) (record { lit = lit i; row = r }) (readings (suc i) lit unread rs)
 
--- The half's rows with their readings.
+-- The half's matrix: its rows that were read, in their order, with their readings.
 abbrev pub checks : Half → List Check
-checks h = readings 0 (h .lit) (h .rows)
+checks h = readings 0 (h .lit) (h .unread) (h .rows)
 
 abbrev pub fixedOf : Half → Qubits
 fixedOf h = fixed? (h .size) (h .others) (h .lost)

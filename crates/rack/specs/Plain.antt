@@ -26,7 +26,7 @@ use Rattle.rack.specs.declared.RackHalf.{RackHalf}
 use Rattle.rack.specs.declared.RackReply.{RackReply}
 
 abbrev pub version : ℕ
-version = 1
+version = 2
 
 ----------------------------------------------------------------------
 -- States

@@ -9,7 +9,7 @@ use lib.ListN.{length, getD}
 use borrow.Author.Tests.{eq-eqb, ne-eqb}
 use Rattle.binary.proofs.Bits.{never}
 use Rattle.reading.specs.declared.Shape.{Shape}
-use Rattle.reading.specs.declared.Shape.the-variants.{Unknown, Wrong, Size, Lose, Light, Decode}
+use Rattle.reading.specs.declared.Shape.the-variants.{Unknown, Wrong, Size, Lose, Light, Unread, Decode}
 use Rattle.records.specs.Records.{kindOf, wholeLength, wrong, readIf, recordOf}
 use Rattle.reading.specs.Shapes.{kindAs, widthIn, unknown?, RecordAs}
 
@@ -33,6 +33,7 @@ module _ (bytes : List ℕ) (some-bytes : length bytes ≡ 0 → ⊥) (s : Shape
       nothing (Shape.Row x w) i = never i refl
       nothing Lose i = never i refl
       nothing (Light x) i = never i refl
+      nothing (Unread x) i = never i refl
       nothing Decode i = never i refl
 
   -- A record of a kind is as long as the kind says, or it is not of its length.
@@ -47,6 +48,7 @@ module _ (bytes : List ℕ) (some-bytes : length bytes ≡ 0 → ⊥) (s : Shape
       other (Shape.Row x w) i j = rw (ne-eqb (length bytes) (suc (2 * w)) j)
       other Lose i j = rw (ne-eqb (length bytes) 3 j)
       other (Light x) i j = rw (ne-eqb (length bytes) 3 j)
+      other (Unread x) i j = rw (ne-eqb (length bytes) 3 j)
       other Decode i j = rw (ne-eqb (length bytes) 4 j)
 
   pub record-right : unknown? s ≡ false → widthIn s ≤ 16 → length bytes ≡ wholeLength (kindAs s) → RecordAs bytes s
@@ -60,4 +62,5 @@ module _ (bytes : List ℕ) (some-bytes : length bytes ≡ 0 → ⊥) (s : Shape
       is (Shape.Row x k) i f j w = (w ∙ rw (eq-eqb (length bytes) (suc (2 * k)) j), f)
       is Lose i f j w = w ∙ rw (eq-eqb (length bytes) 3 j)
       is (Light x) i f j w = w ∙ rw (eq-eqb (length bytes) 3 j)
+      is (Unread x) i f j w = w ∙ rw (eq-eqb (length bytes) 3 j)
       is Decode i f j w = w ∙ rw (eq-eqb (length bytes) 4 j)

@@ -10,8 +10,8 @@ use mathlib.Core.List.{List}
 use Prim.Native.Nat.{ℕ, _≤_}
 use lib.ListN.{getD}
 use Rattle.reading.specs.declared.Shape.{Shape}
-use Rattle.reading.specs.declared.Shape.the-variants.{Unknown, Wrong, Size, Lose, Light, Decode}
-use Rattle.records.specs.Records.{pauli, lost, lit, Kind, sizes, decode, rowOf, member, unknown, wrong, size, row, add, report, number, numbers, recordOf}
+use Rattle.reading.specs.declared.Shape.the-variants.{Unknown, Wrong, Size, Lose, Light, Unread, Decode}
+use Rattle.records.specs.Records.{pauli, lost, lit, unread, Kind, sizes, decode, rowOf, member, unknown, wrong, size, row, add, report, number, numbers, recordOf}
 
 abbrev pub kindAs : Shape → Option Kind
 kindAs Unknown = none
@@ -20,6 +20,7 @@ kindAs Size = some sizes
 kindAs (Shape.Row x w) = some (rowOf (pauli x) w)
 kindAs Lose = some (member lost)
 kindAs (Light x) = some (member (lit (pauli x)))
+kindAs (Unread x) = some (member (unread (pauli x)))
 kindAs Decode = some decode
 
 -- How many qubits a row has.
@@ -30,6 +31,7 @@ widthIn Size = 0
 widthIn (Shape.Row x w) = w
 widthIn Lose = 0
 widthIn (Light x) = 0
+widthIn (Unread x) = 0
 widthIn Decode = 0
 
 abbrev pub unknown? : Shape → Bool
@@ -39,6 +41,7 @@ unknown? Size = false
 unknown? (Shape.Row x w) = false
 unknown? Lose = false
 unknown? (Light x) = false
+unknown? (Unread x) = false
 unknown? Decode = false
 
 abbrev pub decode? : Shape → Bool
@@ -48,6 +51,7 @@ decode? Size = false
 decode? (Shape.Row x w) = false
 decode? Lose = false
 decode? (Light x) = false
+decode? (Unread x) = false
 decode? Decode = true
 
 unfoldable pub RecordAs : List ℕ → Shape → Type 0
@@ -57,4 +61,5 @@ RecordAs bytes Size = recordOf bytes ≡ size (number bytes 1) (number bytes 3) 
 RecordAs bytes (Shape.Row x w) = (recordOf bytes ≡ row (pauli x) (numbers bytes 1 w)) × (w ≤ 16)
 RecordAs bytes Lose = recordOf bytes ≡ add lost (number bytes 1)
 RecordAs bytes (Light x) = recordOf bytes ≡ add (lit (pauli x)) (number bytes 1)
+RecordAs bytes (Unread x) = recordOf bytes ≡ add (unread (pauli x)) (number bytes 1)
 RecordAs bytes Decode = recordOf bytes ≡ report (getD bytes 1 0) (number bytes 2)

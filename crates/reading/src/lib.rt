@@ -17,5 +17,6 @@ pub enum Shape {
     Row(bool, u8),
     Lose,
     Light(bool),
+    Unread(bool),
     Decode,
 }

@@ -24,6 +24,12 @@ fn named(b: u8) -> Shape
     if b == 5 {
         return Shape::Decode;
     }
+    if b == 6 {
+        return Shape::Unread(false);
+    }
+    if b == 7 {
+        return Shape::Unread(true);
+    }
     if b < 33 {
         return Shape::Unknown;
     }
@@ -50,6 +56,7 @@ fn length_of(s: Shape) -> usize
         Shape::Row(x, w) => 1 + 2 * (w as usize),
         Shape::Lose => 3,
         Shape::Light(x) => 3,
+        Shape::Unread(x) => 3,
         Shape::Decode => 4,
     }
 }
@@ -72,6 +79,7 @@ fn is_unknown(s: Shape) -> bool
         Shape::Row(x, w) => false,
         Shape::Lose => false,
         Shape::Light(x) => false,
+        Shape::Unread(x) => false,
         Shape::Decode => false,
     }
 }
@@ -87,6 +95,7 @@ pub fn is_decode(s: Shape) -> bool
         Shape::Row(x, w) => false,
         Shape::Lose => false,
         Shape::Light(x) => false,
+        Shape::Unread(x) => false,
         Shape::Decode => true,
     }
 }

@@ -1,5 +1,6 @@
 -- What the records of a shot do to its list.
 --   Begun      a list that an earlier shot left is cleared, as far as the code has qubits and rows
+--   rowSet     the set of a row that is unread or else lit
 --   markReply  the reply to a number of a set, by the tests in the table's order
 --   Marked     what taking up a number of a set does
 --   Adds       the same, as the record is meant
@@ -15,7 +16,7 @@ use Rattle.records.specs.declared.Refusal.{Refusal}
 use Rattle.records.specs.declared.Refusal.the-variants.{Codeless, Range, Twice, Short}
 use Rattle.records.specs.declared.Answer.the-variants.{Refused, Taken}
 use Rattle.records.specs.declared.Reply.{Reply}
-use Rattle.records.specs.Records.{Set, add}
+use Rattle.records.specs.Records.{Pauli, Set, lit, unread, add}
 use Rattle.records.specs.Lists.{held}
 use Rattle.records.specs.States.{withoutCode, openedOf, saying}
 use Rattle.records.specs.Promise.{Says}
@@ -33,10 +34,14 @@ pub record Begun (st : State) (old new : List ℕ) : Type 0 where
 
 -- Whether the list marks an element for this shot; what an earlier one left does not count.
 abbrev pub marked? : Bool → List ℕ → ℕ → Bool
-marked? stale shot at = not stale && eqb (getD shot at 0) 1
+marked? stale shot at = not stale && not (eqb (getD shot at 0) 0)
 
 ----------------------------------------------------------------------
 -- A number of a set
+
+abbrev pub rowSet : Bool → Pauli → Set
+rowSet true p = unread p
+rowSet false p = lit p
 
 -- Number k of `count`, whose elements begin at `first`.
 unfoldable pub markReply : Bool → ℕ → ℕ → ℕ → State → List ℕ → Reply
@@ -47,11 +52,11 @@ markReply short count first k st shot =
     (cond (marked? (st .stale) shot (first + k)) (saying Twice false st)
     (record { state = openedOf st; answer = Taken }))))
 
--- A refusal writes nothing; else the list is begun and the number's element is 1.
-pub record Marked (short : Bool) (count first k : ℕ) (st : State) (old new : List ℕ) (r : Reply) : Type 0 where
+-- A refusal writes nothing; else the list is begun and the number's element is e.
+pub record Marked (short : Bool) (e count first k : ℕ) (st : State) (old new : List ℕ) (r : Reply) : Type 0 where
   pub reply : r ≡ markReply short count first k st old
   pub refused : (n : Refusal) → r .answer ≡ Refused n → new ≡ old
-  pub taken : r .answer ≡ Taken → (mid : List ℕ) × Begun st old mid × (new ≡ set mid (first + k) 1)
+  pub taken : r .answer ≡ Taken → (mid : List ℕ) × Begun st old mid × (new ≡ set mid (first + k) e)
 
 -- For every input the list keeps its length, and a refusal writes nothing. Where the list is long enough, unless the caller says that one is
 -- short, the record is taken up as the table says, whatever the lists of the code hold.

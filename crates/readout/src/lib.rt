@@ -1,10 +1,10 @@
-// The records of a shot: a lost qubit, a lit row.
+// The records of a shot: a lost qubit, a lit row, an unread row.
 ghost use mathlib.Core.Path.{_≡_};
 ghost use mathlib.Core.Bool.{cond};
 ghost use Prim.Native.Nat.{_+_, _≤_};
 ghost use lib.ListN.{set};
-ghost use Rattle.records.specs.Records.{pauli, lost, lit};
-ghost use Rattle.readout.specs.Readout.{Begun, marked?, Marked, Adds};
+ghost use Rattle.records.specs.Records.{pauli, lost};
+ghost use Rattle.readout.specs.Readout.{Begun, marked?, rowSet, Marked, Adds};
 use code::KindRow;
 use code::Qubit;
 use lists::clear_bytes;
@@ -40,22 +40,30 @@ fn marked(stale: bool, shot: &[u8], at: usize) -> bool
     if shot.len() <= at {
         return false;
     }
-    shot[at] == 1
+    shot[at] != 0
 }
 
 // An element marked.
-fn mark(list: &mut [u8], at: usize)
-    ensures { λ _. ⌜ now (list .exit) ≡ set (now (list .entry)) at 1 ⌝ }
+fn mark(list: &mut [u8], at: usize, element: u8)
+    ensures { λ _. ⌜ now (list .exit) ≡ set (now (list .entry)) at element ⌝ }
 {
     if at < list.len() {
-        list[at] = 1;
+        list[at] = element;
     }
 }
 
-// Number k, of `count`, of a set whose elements begin at `first`.
-fn add(st: State, count: u16, first: usize, k: u16, shot: &mut [u8], short: bool) -> Reply
+// Number k, of `count`, of a set that has this element, of qubits or rows whose elements begin at `first`.
+fn add(
+    st: State,
+    element: u8,
+    count: u16,
+    first: usize,
+    k: u16,
+    shot: &mut [u8],
+    short: bool,
+) -> Reply
     requires { ⌜ first ≤ 131072 ⌝ }
-    ensures { λ r. ⌜ Marked short count first k st (now (shot .entry)) (now (shot .exit)) r ⌝ }
+    ensures { λ r. ⌜ Marked short element count first k st (now (shot .entry)) (now (shot .exit)) r ⌝ }
 {
     if codeless(st) {
         return refused(st, Refusal::Codeless, false);
@@ -71,7 +79,7 @@ fn add(st: State, count: u16, first: usize, k: u16, shot: &mut [u8], short: bool
         return refused(st, Refusal::Twice, false);
     }
     begin(st, shot);
-    mark(shot, at);
+    mark(shot, at, element);
     Reply {
         state: opened(st),
         answer: Answer::Taken,
@@ -83,7 +91,7 @@ pub fn lose(st: State, q: Qubit, shot: &mut [u8], short: bool) -> Reply
     ensures { λ r. ⌜ Adds short lost (q .0) st (now (shot .entry)) (now (shot .exit)) r ⌝ }
 {
     let sizes = st.sizes;
-    add(st, sizes.n, 0, q.0, shot, short)
+    add(st, 1, sizes.n, 0, q.0, shot, short)
 }
 
 // How many rows there are of a kind.
@@ -106,12 +114,29 @@ fn first_of(sizes: Sizes, x_kind: bool) -> usize
     1024 + sizes.x as usize
 }
 
-// A lit row of a kind, X rows or else Z rows, by its number within the kind.
-pub fn light(st: State, x_kind: bool, r: KindRow, shot: &mut [u8], short: bool) -> Reply
-    ensures { λ reply. ⌜ Adds short (lit (pauli «x_kind»)) (r .0) st (now (shot .entry)) (now (shot .exit)) reply ⌝ }
+// A row's element: 2 if it is unread, 1 if it is lit.
+fn element_of(unread: bool) -> u8
+    ensures { λ r. ⌜ r ≡ cond unread 2 1 ⌝ }
+{
+    if unread {
+        return 2;
+    }
+    1
+}
+
+// An unread or else a lit row of a kind, X rows or else Z rows, by its number within the kind.
+pub fn note_row(
+    st: State,
+    unread: bool,
+    x_kind: bool,
+    r: KindRow,
+    shot: &mut [u8],
+    short: bool,
+) -> Reply
+    ensures { λ reply. ⌜ Adds short (rowSet unread (pauli «x_kind»)) (r .0) st (now (shot .entry)) (now (shot .exit)) reply ⌝ }
 {
     let sizes = st.sizes;
     let count = rows_of(sizes, x_kind);
     let first = first_of(sizes, x_kind);
-    add(st, count, first, r.0, shot, short)
+    add(st, element_of(unread), count, first, r.0, shot, short)
 }

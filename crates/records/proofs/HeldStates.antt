@@ -1,16 +1,17 @@
 -- What states that an answer leaves hold, of any code and shot and any lists; and code or no code. Assumes nothing.
-use mathlib.Core.Path.{_≡_, refl, _∙_}
+use mathlib.Core.Path.{_≡_, refl, sym, _∙_}
 use mathlib.Core.Bool.{Bool, true, false, cond}
 use mathlib.Core.List.{List}
+use Prim.Native.Nat.{ℕ}
 use Rattle.binary.specs.Meaning.{Row}
 use Rattle.binary.proofs.Bits.{never}
 use Rattle.records.specs.declared.Sizes.{Sizes}
 use Rattle.records.specs.declared.State.{State}
-use Rattle.records.specs.History.{Code, Shot, among, History, empty, loading, ready, emptyShot, spoil, endShot}
+use Rattle.records.specs.History.{Code, Shot, Domain, qubits, rows, already, History, empty, loading, ready, emptyShot, spoil, endShot}
 use Rattle.records.specs.Table.{complete, isReport, leaves}
 use Rattle.records.specs.declared.Refusal.{Refusal}
 use Rattle.records.specs.declared.Refusal.the-variants.{Unknown, Length, Size, Place, Clash, Codeless, Range, Twice, Budget, Spoiled, Short}
-use Rattle.records.specs.Records.{Set, lost, lit, Record}
+use Rattle.records.specs.Records.{Record}
 use Rattle.records.specs.Lists.{Lists, NoShot, ShotIn, Loads, Holds, Represents}
 use Rattle.records.specs.States.{withoutCode, spoiledOf, endedOf, leftBy}
 
@@ -34,12 +35,7 @@ loads-any s xs zs st l spoiled stale h =
 
 -- Nothing is in an empty shot.
 pub none-among : NoShot emptyShot
-none-among lost = refl
-none-among (lit p) = refl
-
-same-sets : (u : Set) (s : Shot) → among u (record { lost = s .lost; lit = s .lit; spoiled = true }) ≡ among u s
-same-sets lost s = refl
-same-sets (lit p) s = refl
+none-among u = refl
 
 module _ (st : State) (l : Lists) where
   holds-spoiled : (a : History) → Represents a st l → Represents (spoil a) (spoiledOf st) l
@@ -58,9 +54,13 @@ module _ (st : State) (l : Lists) where
         shot = shot (st .stale) (h .shot);
       }
     where
-      shot : (b : Bool) → ShotIn b c s (l .shot) → ShotIn b c (record { lost = s .lost; lit = s .lit; spoiled = true }) (l .shot)
-      shot true i = λ u. same-sets u s ∙ i u
-      shot false i = record { sets = λ u. same-sets u s ∙ i .sets u; bits = i .bits }
+      same : (p : Domain) (k : ℕ) → already p (record { sets = s .sets; spoiled = true }) k ≡ already p s k
+      same qubits k = refl
+      same (rows p) k = refl
+
+      shot : (b : Bool) → ShotIn b c s (l .shot) → ShotIn b c (record { sets = s .sets; spoiled = true }) (l .shot)
+      shot true i = i
+      shot false i = record { sets = i .sets; zeros = λ p k h t. i .zeros p k h (sym (same p k) ∙ t) }
 
   pub holds-ended : (a : History) → Represents a st l → Represents (endShot a) (endedOf st) l
   holds-ended empty h = h

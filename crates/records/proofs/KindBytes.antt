@@ -6,7 +6,7 @@ use Prim.Native.Nat.{ℕ, _-_, _≤_, _<_}
 use native.Mathlib.Omega.{arith}
 use lib.Dec.{leb}
 use borrow.Author.Tests.{ne-eqb, le-leb, lt-leb}
-use Rattle.records.specs.Records.{X, Z, lost, lit, sizes, decode, rowOf, member, between, kindOf}
+use Rattle.records.specs.Records.{X, Z, lost, lit, unread, sizes, decode, rowOf, member, between, kindOf}
 
 pub kind-size : (b : ℕ) → b ≡ 1 → kindOf b ≡ some sizes
 unfolding kindOf
@@ -28,23 +28,50 @@ pub kind-decode : (b : ℕ) → b ≡ 5 → kindOf b ≡ some decode
 unfolding kindOf
 kind-decode b e = rw e
 
-module _ (b : ℕ) (n1 : b ≡ 1 → ⊥) (n2 : b ≡ 2 → ⊥) (n3 : b ≡ 3 → ⊥) (n4 : b ≡ 4 → ⊥) (n5 : b ≡ 5 → ⊥) where
-  -- Neither of the five numbers: a row, or nothing.
-  rest : kindOf b ≡ cond (between 33 48 b) (some (rowOf X (b - 32))) (cond (between 65 80 b) (some (rowOf Z (b - 64))) none)
-  unfolding kindOf
-  rest = rw (ne-eqb b 1 n1, ne-eqb b 2 n2, ne-eqb b 3 n3, ne-eqb b 4 n4, ne-eqb b 5 n5)
+pub kind-unread-z : (b : ℕ) → b ≡ 6 → kindOf b ≡ some (member (unread Z))
+unfolding kindOf
+kind-unread-z b e = rw e
 
-  pub kind-row-x : 33 ≤ b → b ≤ 48 → kindOf b ≡ some (rowOf X (b - 32))
-  kind-row-x i j = rest ∙ rw (le-leb 33 b i, le-leb b 48 j)
+pub kind-unread-x : (b : ℕ) → b ≡ 7 → kindOf b ≡ some (member (unread X))
+unfolding kindOf
+kind-unread-x b e = rw e
 
-  pub kind-row-z : 65 ≤ b → b ≤ 80 → kindOf b ≡ some (rowOf Z (b - 64))
-  kind-row-z i j = rest ∙ rw (lt-leb b 48 (omega arith), and-false (leb 33 b), le-leb 65 b i, le-leb b 80 j)
+-- Of none of the seven numbers: a row, or nothing.
+pub record NoNumber (b : ℕ) : Type 0 where
+  pub n1 : b ≡ 1 → ⊥
+  pub n2 : b ≡ 2 → ⊥
+  pub n3 : b ≡ 3 → ⊥
+  pub n4 : b ≡ 4 → ⊥
+  pub n5 : b ≡ 5 → ⊥
+  pub n6 : b ≡ 6 → ⊥
+  pub n7 : b ≡ 7 → ⊥
 
-  pub kind-low : b < 33 → kindOf b ≡ none
-  kind-low i = rest ∙ rw (lt-leb 33 b i, lt-leb 65 b (omega arith))
+rest : (b : ℕ) → NoNumber b → kindOf b ≡ cond (between 33 48 b) (some (rowOf X (b - 32))) (cond (between 65 80 b) (some (rowOf Z (b - 64))) none)
+unfolding kindOf
+rest b n = rw (ne-eqb b 1 (n .n1), ne-eqb b 2 (n .n2), ne-eqb b 3 (n .n3), ne-eqb b 4 (n .n4), ne-eqb b 5 (n .n5), ne-eqb b 6 (n .n6), ne-eqb b 7 (n .n7))
 
-  pub kind-mid : 48 < b → b < 65 → kindOf b ≡ none
-  kind-mid i j = rest ∙ rw (lt-leb b 48 i, and-false (leb 33 b), lt-leb 65 b j)
+large : (b : ℕ) → 33 ≤ b → NoNumber b
+large b h = record {
+  n1 = λ e. omega arith;
+  n2 = λ e. omega arith;
+  n3 = λ e. omega arith;
+  n4 = λ e. omega arith;
+  n5 = λ e. omega arith;
+  n6 = λ e. omega arith;
+  n7 = λ e. omega arith;
+}
 
-  pub kind-high : 80 < b → kindOf b ≡ none
-  kind-high i = rest ∙ rw (lt-leb b 48 (omega arith), and-false (leb 33 b), lt-leb b 80 i, and-false (leb 65 b))
+pub kind-row-x : (b : ℕ) → 33 ≤ b → b ≤ 48 → kindOf b ≡ some (rowOf X (b - 32))
+kind-row-x b i j = rest b (large b i) ∙ rw (le-leb 33 b i, le-leb b 48 j)
+
+pub kind-row-z : (b : ℕ) → 65 ≤ b → b ≤ 80 → kindOf b ≡ some (rowOf Z (b - 64))
+kind-row-z b i j = rest b (large b (omega arith)) ∙ rw (lt-leb b 48 (omega arith), and-false (leb 33 b), le-leb 65 b i, le-leb b 80 j)
+
+pub kind-low : (b : ℕ) → NoNumber b → b < 33 → kindOf b ≡ none
+kind-low b n i = rest b n ∙ rw (lt-leb 33 b i, lt-leb 65 b (omega arith))
+
+pub kind-mid : (b : ℕ) → 48 < b → b < 65 → kindOf b ≡ none
+kind-mid b i j = rest b (large b (omega arith)) ∙ rw (lt-leb b 48 i, and-false (leb 33 b), lt-leb 65 b j)
+
+pub kind-high : (b : ℕ) → 80 < b → kindOf b ≡ none
+kind-high b i = rest b (large b (omega arith)) ∙ rw (lt-leb b 48 (omega arith), and-false (leb 33 b), lt-leb b 80 i, and-false (leb 65 b))

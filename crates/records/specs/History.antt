@@ -1,10 +1,11 @@
 -- The code and shot that records make (document 01, "Records").
 --   Code       n, the X rows and the Z rows
---   Shot       the lost qubits, the lit rows of each kind, and whether the shot is spoiled
---   among      whether a number is in a set of the shot; joined: one number more
+--   Shot       its sets: the lost qubits, the lit and the unread rows of each kind; and whether it is spoiled
+--   Domain     what a set has numbers of: the qubits, or the rows of a kind
+--   already    whether a qubit or a row is in the shot; joined: a number more in a set
 --   History    no code; a code that is loading; a complete code with its open shot
 --   half       a half of a shot: X errors are found from Z rows, and the X rows are then the other kind; Z errors with the two exchanged
-use mathlib.Core.Bool.{Bool, true, false, cond}
+use mathlib.Core.Bool.{Bool, true, false, _||_, cond}
 use mathlib.Core.List.{List, [], _∷_, _++_}
 use Prim.Native.Nat.{ℕ, _+_}
 use lib.Dec.{eqb}
@@ -12,7 +13,7 @@ use lib.ListN.{length}
 use Rattle.binary.specs.Meaning.{Qubits, Row}
 use Rattle.machine.specs.Machine.{Half, put}
 use Rattle.records.specs.declared.Sizes.{Sizes}
-use Rattle.records.specs.Records.{Pauli, X, Z, Set, lost, lit}
+use Rattle.records.specs.Records.{Pauli, X, Z, Set, lost, lit, unread}
 
 pub record Code : Type 0 where
   pub n : ℕ
@@ -27,8 +28,7 @@ abbrev pub rowCount : Code → ℕ
 rowCount c = length (c .xs) + length (c .zs)
 
 pub record Shot : Type 0 where
-  pub lost : Qubits
-  pub lit : Pauli → ℕ → Bool
+  pub sets : Set → ℕ → Bool
   pub spoiled : Bool
 
 -- Of a code that is loading: its sizes, and the X and Z rows that came so far.
@@ -42,27 +42,43 @@ other X = Z
 other Z = X
 
 abbrev pub half : Pauli → Code → Shot → Half
-half p c s = record { size = c .n; rows = rowsOf (other p) c; others = rowsOf p c; lost = s .lost; lit = s .lit (other p) }
+half p c s = record {
+  size = c .n;
+  rows = rowsOf (other p) c;
+  others = rowsOf p c;
+  lost = s .sets lost;
+  lit = s .sets (lit (other p));
+  unread = s .sets (unread (other p));
+}
 
 abbrev pub sizesOf : Code → Sizes
 sizesOf c = record { n = c .n; x = length (c .xs); z = length (c .zs) }
 
--- How many numbers there are for a set: the qubits, the rows of a kind.
-abbrev pub sizeOf : Set → Sizes → ℕ
-sizeOf lost z = z .n
-sizeOf (lit X) z = z .x
-sizeOf (lit Z) z = z .z
+pub data Domain : Type 0 where
+  qubits : Domain
+  rows : Pauli → Domain
 
--- Whether a number is in a set of the shot.
-abbrev pub among : Set → Shot → ℕ → Bool
-among lost s = s .lost
-among (lit p) s = s .lit p
+abbrev pub domainOf : Set → Domain
+domainOf lost = qubits
+domainOf (lit p) = rows p
+domainOf (unread p) = rows p
+
+-- How many qubits, or rows of a kind, there are.
+abbrev pub sizeOf : Domain → Sizes → ℕ
+sizeOf qubits z = z .n
+sizeOf (rows X) z = z .x
+sizeOf (rows Z) z = z .z
+
+-- A qubit is in the shot that is lost; a row that is lit or unread.
+abbrev pub already : Domain → Shot → ℕ → Bool
+already qubits s q = s .sets lost q
+already (rows p) s r = s .sets (lit p) r || s .sets (unread p) r
 
 ----------------------------------------------------------------------
 -- What records make of them
 
 abbrev pub emptyShot : Shot
-emptyShot = record { lost = λ q. false; lit = λ p r. false; spoiled = false }
+emptyShot = record { sets = λ u k. false; spoiled = false }
 
 -- A complete code's open shot is changed; otherwise there is none.
 abbrev pub onShot : (Shot → Shot) → History → History
@@ -71,22 +87,23 @@ onShot f (loading s xs zs) = loading s xs zs
 onShot f (ready c s) = ready c (f s)
 
 abbrev pub spoil : History → History
-spoil = onShot (λ s. record { lost = s .lost; lit = s .lit; spoiled = true })
+spoil = onShot (λ s. record { sets = s .sets; spoiled = true })
 
 -- The shot is ended; the next is empty.
 abbrev pub endShot : History → History
 endShot = onShot (λ s. emptyShot)
 
-abbrev pub litWith : Pauli → ℕ → (Pauli → ℕ → Bool) → Pauli → ℕ → Bool
-litWith X r f X = put r true (f X)
-litWith X r f Z = f Z
-litWith Z r f X = f X
-litWith Z r f Z = put r true (f Z)
+-- The kind of record that adds to a set.
+abbrev pub adding : Set → ℕ
+adding lost = 2
+adding (lit Z) = 3
+adding (lit X) = 4
+adding (unread Z) = 6
+adding (unread X) = 7
 
 -- A number more in a set.
 abbrev pub joined : Set → ℕ → Shot → Shot
-joined lost q s = record { lost = put q true (s .lost); lit = s .lit; spoiled = s .spoiled }
-joined (lit p) r s = record { lost = s .lost; lit = litWith p r (s .lit); spoiled = s .spoiled }
+joined u k s = record { sets = λ v. cond (eqb (adding v) (adding u)) (put k true (s .sets v)) (s .sets v); spoiled = s .spoiled }
 
 -- The last row announced, or a kind 1 that announces none, completes the code and opens an empty shot.
 abbrev pub loaded : Sizes → List Row → List Row → History

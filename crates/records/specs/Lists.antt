@@ -19,8 +19,8 @@ use Rattle.machine.specs.Lists.{HalfLists}
 use Rattle.records.specs.declared.Sizes.{Sizes}
 use Rattle.records.specs.declared.Phase.the-variants.{Empty, Loading, Ready}
 use Rattle.records.specs.declared.State.{State}
-use Rattle.records.specs.Records.{X, Z, Set, lost, lit}
-use Rattle.records.specs.History.{Code, sizesOf, Shot, sizeOf, among, History, empty, loading, ready}
+use Rattle.records.specs.Records.{X, Z, Set, lost, lit, unread}
+use Rattle.records.specs.History.{Code, sizesOf, Shot, Domain, qubits, rows, domainOf, sizeOf, already, History, empty, loading, ready}
 use Rattle.records.specs.Table.{inRange}
 
 ----------------------------------------------------------------------
@@ -69,25 +69,31 @@ shortSix s n = shortHalf (s .x) n || shortHalf (s .z) n
 ----------------------------------------------------------------------
 -- State and lists hold code and shot
 
--- Where the shot's list has the elements of a set: those of the qubits from its start on, those of the rows from element 1024 on, numbered as
--- in the lists of the code, the X rows first.
-abbrev pub firstOf : Set → Sizes → ℕ
-firstOf lost z = 0
-firstOf (lit X) z = 1024
-firstOf (lit Z) z = 1024 + z .x
+-- Where the shot's list has its elements: those of the qubits from its start on, those of the rows from element 1024 on, numbered as in the lists of
+-- the code, the X rows first.
+abbrev pub firstOf : Domain → Sizes → ℕ
+firstOf qubits z = 0
+firstOf (rows X) z = 1024
+firstOf (rows Z) z = 1024 + z .x
 
--- The numbers below `count` that a list marks by elements 1, from element `first` on.
-abbrev pub marks : ℕ → ℕ → List ℕ → ℕ → Bool
-marks count first l k = ltb k count && eqb (getD l (first + k) 0) 1
+-- The element of a number in a set: 1 of a lost qubit and of a lit row, 2 of an unread row.
+abbrev pub element : Set → ℕ
+element lost = 1
+element (lit p) = 1
+element (unread p) = 2
 
--- The shot's list has element 1 for each number in a set, and 0 for each other.
+-- The numbers below `count` that a list marks by elements e, from element `first` on.
+abbrev pub marks : ℕ → ℕ → ℕ → List ℕ → ℕ → Bool
+marks e count first l k = ltb k count && eqb (getD l (first + k) 0) e
+
+-- The shot's list has its element for each number in a set, and 0 for each qubit and row that is in none.
 pub record HeldShot (c : Code) (s : Shot) (shot : List ℕ) : Type 0 where
-  pub sets : (u : Set) → among u s ≡ marks (sizeOf u (sizesOf c)) (firstOf u (sizesOf c)) shot
-  pub bits : (u : Set) (k : ℕ) → k < sizeOf u (sizesOf c) → getD shot (firstOf u (sizesOf c) + k) 0 ≤ 1
+  pub sets : (u : Set) → s .sets u ≡ marks (element u) (sizeOf (domainOf u) (sizesOf c)) (firstOf (domainOf u) (sizesOf c)) shot
+  pub zeros : (p : Domain) (k : ℕ) → k < sizeOf p (sizesOf c) → already p s k ≡ false → getD shot (firstOf p (sizesOf c) + k) 0 ≡ 0
 
 -- An empty shot, whatever an earlier one left in the list.
 abbrev pub NoShot : Shot → Type 0
-NoShot s = (u : Set) → among u s ≡ (λ k. false)
+NoShot s = (u : Set) → s .sets u ≡ (λ k. false)
 
 abbrev pub ShotIn : Bool → Code → Shot → List ℕ → Type 0
 ShotIn true c s shot = NoShot s

@@ -1,6 +1,6 @@
--- Records (document 01, "Records"): one byte of kind, then a body whose length the kind fixes.
+-- Records (document 01, "Records"; document 02, request a): one byte of kind, then a body whose length the kind fixes.
 --   Pauli       X or Z: the kind of a row, and of a half
---   Set         the sets of a shot: the lost qubits, the lit rows of a kind
+--   Set         the sets of a shot: the lost qubits, the lit rows and the unread rows of a kind
 --   Kind        the kinds of record
 --   kindOf      the kind that a byte names
 --   bodyOf      the length of a kind's body
@@ -26,8 +26,10 @@ pauli false = Z
 pub data Set : Type 0 where
   lost : Set
   lit : Pauli → Set
+  unread : Pauli → Set
 
--- 1: sizes. 32 + w: an X row of w qubits; 64 + w: a Z row. 2: a lost qubit. 3: a lit Z row. 4: a lit X row. 5: decode.
+-- 1: sizes. 32 + w: an X row of w qubits; 64 + w: a Z row. 2: a lost qubit. 3: a lit Z row. 4: a lit X row. 5: decode. 6: an unread Z row. 7: an
+-- unread X row.
 pub data Kind : Type 0 where
   sizes decode : Kind
   rowOf : Pauli → ℕ → Kind
@@ -43,9 +45,11 @@ kindOf b =
     (cond (eqb b 3) (some (member (lit Z)))
     (cond (eqb b 4) (some (member (lit X)))
     (cond (eqb b 5) (some decode)
+    (cond (eqb b 6) (some (member (unread Z)))
+    (cond (eqb b 7) (some (member (unread X)))
     (cond (between 33 48 b) (some (rowOf X (b - 32)))
     (cond (between 65 80 b) (some (rowOf Z (b - 64)))
-    none))))))
+    none))))))))
 
 abbrev pub bodyOf : Kind → ℕ
 bodyOf sizes = 6

@@ -16,7 +16,7 @@ use Rattle.code.specs.Tests.{ascending?}
 use Rattle.records.specs.declared.Refusal.{Refusal}
 use Rattle.records.specs.declared.Refusal.the-variants.{Unknown, Length, Size, Place, Clash, Codeless, Range, Twice, Budget, Spoiled, Short}
 use Rattle.records.specs.Records.{Pauli, X, Z, Record, unknown, wrong, size, row, add, report}
-use Rattle.records.specs.History.{Code, Shot, History, empty, loading, ready, sizesOf, sizeOf, among, onShot, joined, spoil, endShot, loaded, addRow}
+use Rattle.records.specs.History.{Code, Shot, History, empty, loading, ready, sizesOf, domainOf, sizeOf, already, onShot, joined, spoil, endShot, loaded, addRow}
 
 abbrev pub refusalNumber : Refusal → ℕ
 refusalNumber Unknown = 1
@@ -77,7 +77,8 @@ tests short six (size n x z) a = (Size, not (inRange n x z)) ∷ (Short, short) 
 tests short six (row p r) a =
     (Place, not (awaited p a)) ∷ (Refusal.Row, notRow r a) ∷ (Clash, not short && clashes (addRow p r a)) ∷ (Short, short) ∷ []
 tests short six (add u k) a =
-    (Codeless, not (complete a)) ∷ (Range, ofShot (λ c s. leb (sizeOf u (sizesOf c)) k) a) ∷ (Twice, not short && ofShot (λ c s. among u s k) a)
+    (Codeless, not (complete a)) ∷ (Range, ofShot (λ c s. leb (sizeOf (domainOf u) (sizesOf c)) k) a)
+    ∷ (Twice, not short && ofShot (λ c s. already (domainOf u) s k) a)
     ∷ (Short, short) ∷ []
 tests short six (report budget limit) a =
     (Codeless, not (complete a)) ∷ (Budget, ltb 63 budget) ∷ (Spoiled, ofShot (λ c s. s .spoiled) a) ∷ (Short, short || ofShot (λ c s. six (c .n)) a) ∷ []

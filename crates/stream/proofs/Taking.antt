@@ -12,7 +12,7 @@ use Rattle.records.specs.declared.State.{State}
 use Rattle.records.specs.declared.Reply.{Reply}
 use Rattle.records.specs.declared.Refusal.{Refusal}
 use Rattle.records.specs.declared.Refusal.the-variants.{Length}
-use Rattle.records.specs.Records.{Pauli, pauli, Set, lost, lit, Record, unknown, wrong, size, row, add, report, number, numbers, recordOf}
+use Rattle.records.specs.Records.{Pauli, pauli, Set, lost, lit, unread, Record, unknown, wrong, size, row, add, report, number, numbers, recordOf}
 use Rattle.records.specs.History.{History}
 use Rattle.records.specs.Table.{refusal, isReport}
 use Rattle.records.specs.Lists.{Lists, Six, Lent, held, lentOf, shortLists, shortSix}
@@ -24,7 +24,7 @@ use Rattle.records.proofs.Range.{long-lists}
 use Rattle.loading.specs.Loading.{SizesTaken, RowTaken}
 use Rattle.readout.specs.Readout.{Adds}
 use Rattle.reading.specs.declared.Shape.{Shape}
-use Rattle.reading.specs.declared.Shape.the-variants.{Unknown, Wrong, Size, Lose, Light, Decode}
+use Rattle.reading.specs.declared.Shape.the-variants.{Unknown, Wrong, Size, Lose, Light, Unread, Decode}
 use Rattle.reading.specs.Shapes.{decode?, RecordAs}
 use Rattle.stream.specs.Takes.{Takes}
 use Rattle.reading.proofs.Numbers.{numbers-length}
@@ -56,6 +56,10 @@ module _ (bytes : List ℕ) (s : Shape) (v : RecordAs bytes s) where
   unfolding RecordAs
   at-light x e = subst (RecordAs bytes) e v
 
+  pub at-unread : (x : Bool) → s ≡ Unread x → recordOf bytes ≡ add (unread (pauli x)) (number bytes 1)
+  unfolding RecordAs
+  at-unread x e = subst (RecordAs bytes) e v
+
   at-unknown : s ≡ Unknown → recordOf bytes ≡ unknown
   unfolding RecordAs
   at-unknown e = subst (RecordAs bytes) e v
@@ -76,6 +80,7 @@ module _ (bytes : List ℕ) (s : Shape) (v : RecordAs bytes s) where
       by (Shape.Row x w) u f = never f refl
       by Lose u f = never f refl
       by (Light x) u f = never f refl
+      by (Unread x) u f = never f refl
       by Decode u f = u
 
   not-report : decode? s ≡ false → isReport (recordOf bytes) ≡ false
@@ -89,6 +94,7 @@ module _ (bytes : List ℕ) (s : Shape) (v : RecordAs bytes s) where
       by (Shape.Row x w) u f = rw (u .0)
       by Lose u f = rw u
       by (Light x) u f = rw u
+      by (Unread x) u f = rw u
       by Decode u f = never refl f
 
   ----------------------------------------------------------------------
@@ -159,12 +165,9 @@ module _ (bytes : List ℕ) (s : Shape) (v : RecordAs bytes s) where
           does = λ work six t. rw e (d .does six flat ends (λ i. long-lists l work (sym t ∙ i) .shot));
         }
 
-    pub take-lose : s ≡ Lose → (q : ℕ) → q ≡ number bytes 1 → (shot′ : List ℕ) → Adds short lost q st shot shot′ r → Takes short bytes st l (held flat ends shot′) r
-    take-lose e q i = adds lost q (at-lose e ∙ ap (add lost) (sym i))
-
-    pub take-light : (x : Bool) → s ≡ Light x → (k : ℕ) → k ≡ number bytes 1 → (shot′ : List ℕ) → Adds short (lit (pauli x)) k st shot shot′ r
+    pub take-add : (u : Set) → recordOf bytes ≡ add u (number bytes 1) → (k : ℕ) → k ≡ number bytes 1 → (shot′ : List ℕ) → Adds short u k st shot shot′ r
         → Takes short bytes st l (held flat ends shot′) r
-    take-light x e k i = adds (lit (pauli x)) k (at-light x e ∙ ap (add (lit (pauli x))) (sym i))
+    take-add u e k i = adds u k (e ∙ ap (add u) (sym i))
 
   ----------------------------------------------------------------------
   -- The promise

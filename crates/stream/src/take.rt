@@ -59,7 +59,12 @@ pub fn take(
         ),
         Shape::Row(x, w) => read_row(st, x, flat, ends, bytes, w as usize, short),
         Shape::Lose => readout::lose(st, Qubit(number(bytes, 1)), shot, short),
-        Shape::Light(x) => readout::light(st, x, KindRow(number(bytes, 1)), shot, short),
+        Shape::Light(x) => {
+            readout::note_row(st, false, x, KindRow(number(bytes, 1)), shot, short)
+        }
+        Shape::Unread(x) => {
+            readout::note_row(st, true, x, KindRow(number(bytes, 1)), shot, short)
+        }
         Shape::Decode => refused(st, Refusal::Unknown, false),
     }
 }

@@ -120,7 +120,7 @@ fn add_row(line: &mut [u8], at: usize, st: State) -> usize
     add(line, end, b", strictly ascending, wanted")
 }
 
-// What a record of kind 2, 3 or 4 names.
+// What a record of a shot names: kinds 3 and 6 a Z row, 4 and 7 an X row.
 fn add_named(line: &mut [u8], at: usize, bytes: &[u8]) -> usize
     requires { ⌜ at ≤ length (now line) ⌝ }
     ensures { λ r. ⌜ r ≤ length (now (line .exit)) ⌝ }
@@ -129,7 +129,7 @@ fn add_named(line: &mut [u8], at: usize, bytes: &[u8]) -> usize
     if kind == 2 {
         return add(line, at, b" qubit");
     }
-    if kind == 3 {
+    if (kind == 3) | (kind == 6) {
         return add(line, at, b" Z row");
     }
     add(line, at, b" X row")
@@ -148,7 +148,7 @@ fn add_range(line: &mut [u8], at: usize, st: State, bytes: &[u8]) -> usize
     if kind == 2 {
         return add_among(line, end, k, sizes.n, b" qubits");
     }
-    if kind == 3 {
+    if (kind == 3) | (kind == 6) {
         return add_among(line, end, k, sizes.z, b" Z rows");
     }
     add_among(line, end, k, sizes.x, b" X rows")
@@ -183,7 +183,7 @@ pub fn add_wanted(line: &mut [u8], at: usize, st: State, refusal: Refusal, bytes
         Refusal::Unknown => add(
             line,
             at,
-            b" unknown: kinds 1 to 5, 33 to 48 and 65 to 80 wanted",
+            b" unknown: kinds 1 to 7, 33 to 48 and 65 to 80 wanted",
         ),
         Refusal::Length => add_length(line, at, bytes),
         Refusal::Size => add_sizes(line, at, bytes),

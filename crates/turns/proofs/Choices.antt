@@ -83,7 +83,7 @@ most-same deg deg′ (suc n) o h =
 
 -- With the rows counted, the qubit named is the one on most rows.
 pub counted-rule : (n : ℕ) (flat ends lit : List ℕ) (first count : ℕ) (degrees degrees′ : List ℕ) (o : Qubits)
-    → CountedRows n flat ends first count degrees degrees′ → All (Ascending n) (rowsFrom flat ends first count)
+    → CountedRows n flat ends lit first count degrees degrees′ → All (Ascending n) (rowsFrom flat ends first count)
     → most (λ q. getD degrees′ q 0) n o ≡ most (degree (checksFrom flat ends lit first count)) n o
 counted-rule n flat ends lit first count degrees degrees′ o r a =
-    most-same (λ q. getD degrees′ q 0) (degree (checksFrom flat ends lit first count)) n o (r .counted a lit)
+    most-same (λ q. getD degrees′ q 0) (degree (checksFrom flat ends lit first count)) n o (r .counted a)

@@ -1,6 +1,6 @@
 -- On how many rows a qubit is, counted qubit by qubit of each row. Assumes nothing.
 use mathlib.Core.Path.{_≡_, refl, sym, ap, _∙_, subst}
-use mathlib.Core.Bool.{false}
+use mathlib.Core.Bool.{Bool, true, false, cond}
 use mathlib.Core.List.{List, [], _∷_}
 use Prim.Native.Nat.{ℕ, zero, suc, _+_, _-_, _*_, _^_, _≤_, _<_, zero-le}
 use native.Mathlib.Numerals.{add-one}
@@ -10,15 +10,15 @@ use lib.Dec.{eqb, leb}
 use lib.ListN.{length, getD, set, drop, length-take, length-drop, drop-of-length-le, length-set}
 use lib.Seq.{drop-cons, getD-set-same, getD-set-other}
 use Rattle.binary.specs.Bits.{count}
-use Rattle.binary.specs.Meaning.{Row, All, has}
+use Rattle.binary.specs.Meaning.{Row, Check, All, has}
 use Rattle.binary.proofs.Bits.{bit}
 use Rattle.code.specs.Lists.{rowAt, rowsFrom}
 use Rattle.code.specs.Tests.{Ascending}
 use Rattle.code.proofs.Order.{Distinct, ascending-distinct}
-use Rattle.machine.specs.Machine.{degree}
-use Rattle.turns.specs.Lists.{checksFrom}
+use Rattle.machine.specs.Machine.{keepIf, degree}
+use Rattle.turns.specs.Lists.{checkAt, read?, readRow, checksFrom}
 use Rattle.lists.specs.Cleared.{Cleared}
-use Rattle.turns.specs.Scans.{times, timesIn, AddedRow, CountedRows}
+use Rattle.turns.specs.Scans.{times, timesIn, readRows, AddedRow, CountedRows}
 
 ----------------------------------------------------------------------
 -- Times and rows
@@ -36,11 +36,22 @@ times-has (p ∷ row) d q k =
     once gone rest = let same : times row q + k ≡ k = rest ∙ rw gone in omega arith
 
 pub times-degree : (n : ℕ) (flat ends lit : List ℕ) (q r number : ℕ) → All (Ascending n) (rowsFrom flat ends r number)
-    → timesIn (rowsFrom flat ends r number) q ≡ degree (checksFrom flat ends lit r number) q
+    → timesIn (readRows flat ends lit r number) q ≡ degree (checksFrom flat ends lit r number) q
 times-degree n flat ends lit q r zero a = refl
-times-degree n flat ends lit q r (suc number) a =
-    times-has (rowAt flat ends r) (ascending-distinct n (rowAt flat ends r) (a .0)) q (timesIn (rowsFrom flat ends (suc r) number) q)
-    ∙ ap (count (has (rowAt flat ends r) q)) (times-degree n flat ends lit q (suc r) number (a .1))
+times-degree n flat ends lit q r (suc number) a = by (read? lit r) (times-degree n flat ends lit q (suc r) number (a .1))
+  where
+    row : Row
+    row = rowAt flat ends r
+
+    rest : ℕ
+    rest = timesIn (readRows flat ends lit (suc r) number) q
+
+    left : List Check
+    left = checksFrom flat ends lit (suc r) number
+
+    by : (b : Bool) → rest ≡ degree left q → times (cond b row []) q + rest ≡ degree (keepIf b (checkAt flat ends lit r) left) q
+    by true e = times-has row (ascending-distinct n row (a .0)) q rest ∙ ap (count (has row q)) e
+    by false e = omega arith
 
 ----------------------------------------------------------------------
 -- Counts stay small
@@ -56,11 +67,15 @@ row-short flat ends r =
     (λ e. let h = leb-true (getD ends r 0) (length flat) e in rw e (simp (length-drop, length-take) (omega arith)))
     (λ e. rw e (omega arith))
 
-pub times-small : (flat ends : List ℕ) (q : ℕ) → ((r : ℕ) → getD ends r 0 < 65536)
-    → (r number : ℕ) → timesIn (rowsFrom flat ends r number) q ≤ 65536 * number
-times-small flat ends q h r zero = omega arith
-times-small flat ends q h r (suc number) =
-    omega (arith, times-few (rowAt flat ends r) q, row-short flat ends r, h r, times-small flat ends q h (suc r) number)
+read-few : (b : Bool) (row : Row) (q : ℕ) → times (cond b row []) q ≤ length row
+read-few true row q = times-few row q
+read-few false row q = omega arith
+
+pub times-small : (flat ends lit : List ℕ) (q : ℕ) → ((r : ℕ) → getD ends r 0 < 65536)
+    → (r number : ℕ) → timesIn (readRows flat ends lit r number) q ≤ 65536 * number
+times-small flat ends lit q h r zero = omega arith
+times-small flat ends lit q h r (suc number) =
+    omega (arith, read-few (read? lit r) (rowAt flat ends r) q, row-short flat ends r, h r, times-small flat ends lit q h (suc r) number)
 
 ----------------------------------------------------------------------
 -- A row added, qubit by qubit
@@ -105,38 +120,39 @@ module _ (n : ℕ) (row old degrees : List ℕ) (i : ℕ) (a : Adding n row old 
 -- Rows counted, one by one
 
 -- What is counted, with the rows that are left from row r on, is what it comes to.
-unfoldable pub Counting : ℕ → List ℕ → List ℕ → ℕ → ℕ → List ℕ → ℕ → Type 0
-Counting n flat ends first count degrees r =
-    (q : ℕ) → q < n → getD degrees q 0 + timesIn (rowsFrom flat ends r (first + count - r)) q ≡ timesIn (rowsFrom flat ends first count) q
+unfoldable pub Counting : ℕ → List ℕ → List ℕ → List ℕ → ℕ → ℕ → List ℕ → ℕ → Type 0
+Counting n flat ends lit first count degrees r =
+    (q : ℕ) → q < n → getD degrees q 0 + timesIn (readRows flat ends lit r (first + count - r)) q ≡ timesIn (readRows flat ends lit first count) q
 
-rows-turn : (flat ends : List ℕ) (r stop : ℕ) → r < stop → rowsFrom flat ends r (stop - r) ≡ rowAt flat ends r ∷ rowsFrom flat ends (r + 1) (stop - (r + 1))
-rows-turn flat ends r stop h = let more : stop - r ≡ suc (stop - suc r) = omega arith in rw (add-one r, more)
+rows-turn : (flat ends lit : List ℕ) (r stop : ℕ) → r < stop
+    → readRows flat ends lit r (stop - r) ≡ readRow flat ends lit r ∷ readRows flat ends lit (r + 1) (stop - (r + 1))
+rows-turn flat ends lit r stop h = let more : stop - r ≡ suc (stop - suc r) = omega arith in rw (add-one r, more)
 
-module _ (n : ℕ) (flat ends : List ℕ) (first count : ℕ) where
-  pub counting-start : (old degrees : List ℕ) → Cleared 0 n old degrees → Counting n flat ends first count degrees first
+module _ (n : ℕ) (flat ends lit : List ℕ) (first count : ℕ) where
+  pub counting-start : (old degrees : List ℕ) → Cleared 0 n old degrees → Counting n flat ends lit first count degrees first
   unfolding Counting
   counting-start old degrees f q h = let all : first + count - first ≡ count = omega arith in rw (f .inside q zero-le h, all) (omega arith)
 
-  module _ (degrees : List ℕ) (r : ℕ) (left : Counting n flat ends first count degrees r) where
-    pub counting-end : (old : List ℕ) → first + count ≤ r → length degrees ≡ length old → CountedRows n flat ends first count old degrees
+  module _ (degrees : List ℕ) (r : ℕ) (left : Counting n flat ends lit first count degrees r) where
+    pub counting-end : (old : List ℕ) → first + count ≤ r → length degrees ≡ length old → CountedRows n flat ends lit first count old degrees
     unfolding Counting
     counting-end old h same =
         let none : first + count - r ≡ 0 = omega arith in
         record {
           long = same;
-          counted = λ a lit q k.
+          counted = λ a q k.
               let z = rw none at (left q k) in omega (arith, times-degree n flat ends lit q first count a);
         }
 
-    module _ (row : List ℕ) (is : row ≡ rowAt flat ends r) (h : r < first + count) where
-      next : (q : ℕ) → q < n → getD degrees q 0 + (times row q + timesIn (rowsFrom flat ends (r + 1) (first + count - (r + 1))) q)
-          ≡ timesIn (rowsFrom flat ends first count) q
+    module _ (row : List ℕ) (is : row ≡ readRow flat ends lit r) (h : r < first + count) where
+      next : (q : ℕ) → q < n → getD degrees q 0 + (times row q + timesIn (readRows flat ends lit (r + 1) (first + count - (r + 1))) q)
+          ≡ timesIn (readRows flat ends lit first count) q
       unfolding Counting
-      next q k = rw is (rw (rows-turn flat ends r (first + count) h) at (left q k))
+      next q k = rw is (rw (rows-turn flat ends lit r (first + count) h) at (left q k))
 
       pub counting-room : ((i : ℕ) → getD ends i 0 < 65536) → first + count ≤ 1024 → (q : ℕ) → q < n → getD degrees q 0 + times row q < 2 ^ 64
-      counting-room e l q k = omega (arith, next q k, times-small flat ends q e first count)
+      counting-room e l q k = omega (arith, next q k, times-small flat ends lit q e first count)
 
-      pub counting-turn : (degrees′ : List ℕ) → AddedRow n row degrees degrees′ → Counting n flat ends first count degrees′ (r + 1)
+      pub counting-turn : (degrees′ : List ℕ) → AddedRow n row degrees degrees′ → Counting n flat ends lit first count degrees′ (r + 1)
       unfolding Counting
       counting-turn degrees′ a q k = omega (arith, next q k, a .added q k)

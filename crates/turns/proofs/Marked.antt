@@ -105,7 +105,7 @@ module _ (n : ℕ) (c : RowLists) (budget limit : ℕ) (marks forms forms₁ : L
         look (failed st) i w = let u : _≡_ {A = Bool} true false = cc in never refl u
         look (on st) i w = let e : st .forms .live ≡ live = cc in subst (λ (k : ℕ). Topped n k forms₁) e (w .2)
 
-    pub half-goes : (work degrees : List ℕ) (new : Qubitwise) (r : Ended) → CountedRows n (c .flat) (c .ends) (c .first) (c .count) work degrees
+    pub half-goes : (work degrees : List ℕ) (new : Qubitwise) (r : Ended) → CountedRows n (c .flat) (c .ends) (c .lit) (c .first) (c .count) work degrees
         → EndedAs n mid new r (runFrom n c degrees budget limit (suc limit) mid live 0) → TurnedHalf n c budget limit old new r
     unfolding runFrom
     half-goes work degrees new r counted v =

@@ -34,11 +34,11 @@ module _ (n : ℕ) (c : RowLists) (marks : List ℕ) where
   lowest = dangling (isOpen (view n marks)) (rowChecks c)
 
   abbrev Found : Dangling → Type 0
-  Found d = FoundDangling n (c .flat) (c .ends) (c .first) (c .count) marks d
+  Found d = FoundDangling n (c .flat) (c .ends) (c .lit) (c .first) (c .count) marks d
 
   -- The answer names the machine's row and qubit, or that there is none.
   found-row : (d : Dangling) (r : Row) (p : Qubit) → Found d → d ≡ At r p → lowest ≡ some (p .0, checkAt (c .flat) (c .ends) (c .lit) (r .0))
-  found-row d r p f e = look lowest refl (f .told (c .lit))
+  found-row d r p f e = look lowest refl (f .told)
     where
       look : (x : Option (ℕ × Check)) → lowest ≡ x → DanglingAs (checkAt (c .flat) (c .ends) (c .lit)) x d
           → lowest ≡ some (p .0, checkAt (c .flat) (c .ends) (c .lit) (r .0))
@@ -51,7 +51,7 @@ module _ (n : ℕ) (c : RowLists) (marks : List ℕ) where
           i ∙ λ j. some (a j, b j)
 
   found-none : (d : Dangling) → Found d → d ≡ NoRow → lowest ≡ none
-  found-none d f e = look lowest refl (f .told (c .lit))
+  found-none d f e = look lowest refl (f .told)
     where
       look : (x : Option (ℕ × Check)) → lowest ≡ x → DanglingAs (checkAt (c .flat) (c .ends) (c .lit)) x d → lowest ≡ none
       look none i v = i

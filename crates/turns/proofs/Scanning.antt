@@ -1,6 +1,6 @@
 -- The open qubits of a row, and the rows looked at one by one. Assumes nothing.
 use mathlib.Core.Path.{_≡_, refl, sym, ap, _∙_}
-use mathlib.Core.Bool.{Bool, true, false}
+use mathlib.Core.Bool.{Bool, true, false, cond}
 use mathlib.Core.Option.{none}
 use mathlib.Core.List.{List, [], _∷_}
 use Prim.Native.Nat.{ℕ, suc, _+_, _-_, _≤_, _<_}
@@ -10,17 +10,16 @@ use borrow.Author.Tests.{lt-ltb, le-ltb, le-leb, lt-leb, ltb-true, ltb-false, eq
 use lib.Dec.{eqb, ltb, leb}
 use lib.ListN.{length, getD, drop, drop-of-length-le}
 use lib.Seq.{drop-cons}
-use Rattle.binary.specs.Meaning.{Qubits}
+use Rattle.binary.specs.Meaning.{Qubits, Check}
 use Rattle.binary.proofs.Bits.{bit, never}
 use Rattle.code.specs.declared.Qubit.{Qubit}
-use Rattle.code.specs.Lists.{rowAt}
 use Rattle.turns.specs.declared.Open.{Open}
 use Rattle.turns.specs.declared.Open.the-variants.{Closed, One, More}
 use Rattle.turns.specs.declared.Dangling.the-variants.{NoRow, At}
 use Rattle.machine.specs.Machine.{isOpen, keepIf, part, empty?, only, orElse, dangling}
 use Rattle.machine.specs.Report.{marked}
 use Rattle.machine.specs.Lists.{view}
-use Rattle.turns.specs.Lists.{checkAt, checksFrom, openOf}
+use Rattle.turns.specs.Lists.{checkAt, read?, readRow, checksFrom, openOf}
 use Rattle.turns.specs.Scans.{OpenFrom, FoundDangling}
 
 ----------------------------------------------------------------------
@@ -104,49 +103,57 @@ part-open o (p ∷ row) q l e = look (o p) refl (part-open o row q l) e
     look false t more i = more i
 
 module _ (flat ends : List ℕ) (r stop : ℕ) (lit : List ℕ) where
-  checks-turn : r < stop → checksFrom flat ends lit r (stop - r) ≡ checkAt flat ends lit r ∷ checksFrom flat ends lit (r + 1) (stop - (r + 1))
+  checks-turn : r < stop → checksFrom flat ends lit r (stop - r) ≡ keepIf (read? lit r) (checkAt flat ends lit r) (checksFrom flat ends lit (r + 1) (stop - (r + 1)))
   checks-turn h = let more : stop - r ≡ suc (stop - suc r) = omega arith in rw (add-one r, more)
 
   checks-none : stop ≤ r → checksFrom flat ends lit r (stop - r) ≡ []
   checks-none h = let none : stop - r ≡ 0 = omega arith in rw none
 
--- The rows that are left decide, whatever rows are lit.
-unfoldable pub Looking : ℕ → List ℕ → List ℕ → ℕ → ℕ → List ℕ → ℕ → Type 0
-Looking n flat ends first count marks r =
-    (lit : List ℕ) → dangling (isOpen (view n marks)) (checksFrom flat ends lit r (first + count - r))
+-- A row that is left out does not dangle.
+dangling-kept : (o : Qubits) (b : Bool) (c : Check) (cs : List Check) → dangling o (keepIf b c cs) ≡ orElse (only (part o (cond b (c .row) []))) c (dangling o cs)
+dangling-kept o true c cs = refl
+dangling-kept o false c cs = refl
+
+-- The rows that are left decide.
+unfoldable pub Looking : ℕ → List ℕ → List ℕ → List ℕ → ℕ → ℕ → List ℕ → ℕ → Type 0
+Looking n flat ends lit first count marks r =
+    dangling (isOpen (view n marks)) (checksFrom flat ends lit r (first + count - r))
     ≡ dangling (isOpen (view n marks)) (checksFrom flat ends lit first count)
 
-module _ (n : ℕ) (flat ends : List ℕ) (first count : ℕ) (marks : List ℕ) where
-  pub looking-start : Looking n flat ends first count marks first
+module _ (n : ℕ) (flat ends lit : List ℕ) (first count : ℕ) (marks : List ℕ) where
+  pub looking-start : Looking n flat ends lit first count marks first
   unfolding Looking
-  looking-start lit = let all : first + count - first ≡ count = omega arith in rw all
+  looking-start = let all : first + count - first ≡ count = omega arith in rw all
 
-  module _ (r : ℕ) (left : Looking n flat ends first count marks r) where
-    pub looking-end : first + count ≤ r → FoundDangling n flat ends first count marks NoRow
+  module _ (r : ℕ) (left : Looking n flat ends lit first count marks r) where
+    pub looking-end : first + count ≤ r → FoundDangling n flat ends lit first count marks NoRow
     unfolding Looking
     looking-end h = record {
-      told = λ lit. rw (← left lit, checks-none flat ends r (first + count) lit h) refl;
+      told = rw (← left, checks-none flat ends r (first + count) lit h) refl;
       among = λ s q e. let z : _≡_ {A = Bool} true false = cc in never refl z;
       below = λ s q e. let z : _≡_ {A = Bool} true false = cc in never refl z;
     }
 
-    module _ (row : List ℕ) (is : row ≡ rowAt flat ends r) (h : r < first + count) where
-      next : (lit : List ℕ) → orElse (only (part (isOpen (view n marks)) row)) (checkAt flat ends lit r) (dangling (isOpen (view n marks)) (checksFrom flat ends lit (r + 1) (first + count - (r + 1))))
+    module _ (row : List ℕ) (is : row ≡ readRow flat ends lit r) (h : r < first + count) where
+      next : orElse (only (part (isOpen (view n marks)) row)) (checkAt flat ends lit r) (dangling (isOpen (view n marks)) (checksFrom flat ends lit (r + 1) (first + count - (r + 1))))
           ≡ dangling (isOpen (view n marks)) (checksFrom flat ends lit first count)
       unfolding Looking
-      next lit = rw is (sym (ap (dangling (isOpen (view n marks))) (checks-turn flat ends r (first + count) lit h)) ∙ left lit)
+      next =
+          let o = isOpen (view n marks) in
+          let rest = checksFrom flat ends lit (r + 1) (first + count - (r + 1)) in
+          rw is (sym (dangling-kept o (read? lit r) (checkAt flat ends lit r) rest) ∙ sym (ap (dangling o) (checks-turn flat ends r (first + count) lit h)) ∙ left)
 
       pub looking-turn : (d : Open) → d ≡ openOf (part (isOpen (view n marks)) row) → ((q : Qubit) → d ≡ One q → ⊥)
-          → Looking n flat ends first count marks (r + 1)
+          → Looking n flat ends lit first count marks (r + 1)
       unfolding Looking
-      looking-turn d e k lit = rw (only-none (part (isOpen (view n marks)) row) d e k) at (next lit)
+      looking-turn d e k = rw (only-none (part (isOpen (view n marks)) row) d e k) at next
 
       pub looking-found : (q : Qubit) → first ≤ r → One q ≡ openOf (part (isOpen (view n marks)) row)
-          → FoundDangling n flat ends first count marks (At (record { 0 = r }) q)
+          → FoundDangling n flat ends lit first count marks (At (record { 0 = r }) q)
       looking-found q l e =
           let one = only-one (part (isOpen (view n marks)) row) q e in
           record {
-            told = λ lit. rw (← next lit, one) (r, refl, refl);
+            told = rw (← next, one) (r, refl, refl);
             among = λ s p i. let same : r ≡ s .0 = cc in (omega arith, omega arith);
             below = λ s p i. let same : q .0 ≡ p .0 = cc in rw (← same) (open-below n marks (q .0) (part-open (isOpen (view n marks)) row (q .0) [] one));
           }

@@ -4,13 +4,13 @@ ghost use lib.ListN.{length};
 ghost use Rattle.machine.specs.Machine.{isOpen, takeUpAll};
 ghost use Rattle.machine.specs.Lists.{view};
 ghost use Rattle.forms.specs.Forms.{withLive, Topped, TookUp};
-ghost use Rattle.turns.specs.Lists.{checkAt, checksFrom, closedAt?, takeIfClosed};
+ghost use Rattle.turns.specs.Lists.{read?, checkAt, checksFrom, closedAt?, takeIfClosed};
 use crate::rows;
 use code::Qubit;
 use code::Row;
 use forms::Taken;
 
-// Row r taken up if it closes.
+// Row r taken up if it was read and closes.
 fn take_up_row(
     n: usize,
     flat: &[u16],
@@ -25,10 +25,13 @@ fn take_up_row(
 ) -> Taken
     requires { ⌜ (n ≤ length (now forms)) × (n ≤ length (now marks)) × (r .0 < length (now lit)) × Topped n live (now forms) ⌝ }
     ensures { λ t. ⌜ TookUp n
-        (takeIfClosed n (now (marks .entry)) all (p .0) (withLive n (now (forms .entry)) live)
+        (takeIfClosed (read? (now (lit .entry)) (r .0)) n (now (marks .entry)) all (p .0) (withLive n (now (forms .entry)) live)
         (checkAt (now (flat .entry)) (now (ends .entry)) (now (lit .entry)) (r .0)))
         t (now (forms .entry)) (now (forms .exit)) ⌝ }
 {
+    if !rows::is_read(lit, r) {
+        return Taken::Live(live);
+    }
     let row = code::row_at(flat, ends, r);
     if rows::closes(n, row, marks, all, p) {
         let at = r.0 as usize;

@@ -7,6 +7,7 @@ ghost use Rattle.machine.specs.Lists.{view};
 ghost use Rattle.turns.specs.Lists.{choiceOf};
 ghost use Rattle.turns.specs.Scans.{times, AddedRow, CountedRows, betterOf, NamedBelow};
 use crate::Choice;
+use crate::rows;
 use code::Qubit;
 use code::Row;
 
@@ -26,17 +27,26 @@ fn add_row(n: usize, row: &[u16], degrees: &mut [u64])
     }
 }
 
-// On how many of so many rows from row `first` on each qubit is.
-pub fn count_rows(n: usize, flat: &[u16], ends: &[u16], first: u16, count: u16, degrees: &mut [u64])
+// On how many rows that were read, of so many from row `first` on, each qubit is.
+pub fn count_rows(
+    n: usize,
+    flat: &[u16],
+    ends: &[u16],
+    lit: &[u8],
+    first: u16,
+    count: u16,
+    degrees: &mut [u64],
+)
+    requires { do ⌜ first + count ≤ (← ⟦lit.len()⟧) ⌝ }
     requires { do ⌜ n ≤ (← ⟦degrees.len()⟧) ⌝ }
     requires { ⌜ first + count ≤ 1024 ⌝ }
-    ensures { λ _. ⌜ CountedRows n (now (flat .entry)) (now (ends .entry)) first count (now (degrees .entry)) (now (degrees .exit)) ⌝ }
+    ensures { λ _. ⌜ CountedRows n (now (flat .entry)) (now (ends .entry)) (now (lit .entry)) first count (now (degrees .entry)) (now (degrees .exit)) ⌝ }
 {
     lists::clear_words(degrees, 0, n);
     let stop = first + count;
     let mut r = first;
     while r < stop {
-        let row = code::row_at(flat, ends, Row(r));
+        let row = rows::read_row(flat, ends, lit, Row(r));
         add_row(n, row, degrees);
         r += 1;
     }

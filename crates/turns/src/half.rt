@@ -69,7 +69,7 @@ fn turn_half(
             live: 0,
         };
     };
-    guesses::count_rows(n, flat, ends, first, count, work);
+    guesses::count_rows(n, flat, ends, lit, first, count, work);
     let unsettled = rows::count_marks(n, marks, 4);
     turns::run(
         n,

@@ -6,7 +6,7 @@ ghost use Rattle.binary.specs.Meaning.{has};
 ghost use Rattle.machine.specs.Machine.{isOpen, part, empty?};
 ghost use Rattle.machine.specs.Report.{marked};
 ghost use Rattle.machine.specs.Lists.{view};
-ghost use Rattle.turns.specs.Lists.{openOf};
+ghost use Rattle.turns.specs.Lists.{read?, readRow, openOf};
 ghost use Rattle.turns.specs.Scans.{OpenFrom, FoundDangling};
 use crate::Dangling;
 use crate::Open;
@@ -73,23 +73,45 @@ pub fn closes(n: usize, row: &[u16], marks: &[u8], all: bool, p: Qubit) -> bool
     (all || code::contains(row, p)) && closed(n, row, marks)
 }
 
+// Whether the row was read.
+pub fn is_read(lit: &[u8], r: Row) -> bool
+    requires { do ⌜ r .0 < (← ⟦lit.len()⟧) ⌝ }
+    ensures { λ b. ⌜ b ≡ read? (now (lit .entry)) (r .0) ⌝ }
+{
+    let at = r.0 as usize;
+    lit[at] != 2
+}
+
+// The row's qubits; an unread row is left out of the half's matrix, and has none.
+pub fn read_row<'a>(flat: &'a [u16], ends: &[u16], lit: &[u8], r: Row) -> &'a [u16]
+    requires { do ⌜ r .0 < (← ⟦lit.len()⟧) ⌝ }
+    ensures { λ row. ⌜ now row ≡ readRow (now (flat .entry)) (now (ends .entry)) (now (lit .entry)) (r .0) ⌝ }
+{
+    if is_read(lit, r) {
+        return code::row_at(flat, ends, r);
+    }
+    &flat[0..0]
+}
+
 // The lowest dangling row, of so many from row `first` on, with its open qubit.
 pub fn find_dangling(
     n: usize,
     flat: &[u16],
     ends: &[u16],
+    lit: &[u8],
     first: u16,
     count: u16,
     marks: &[u8],
 ) -> Dangling
     requires { do ⌜ n ≤ (← ⟦marks.len()⟧) ⌝ }
+    requires { do ⌜ first + count ≤ (← ⟦lit.len()⟧) ⌝ }
     requires { ⌜ first + count ≤ 1024 ⌝ }
-    ensures { λ r. ⌜ FoundDangling n (now (flat .entry)) (now (ends .entry)) first count (now (marks .entry)) r ⌝ }
+    ensures { λ r. ⌜ FoundDangling n (now (flat .entry)) (now (ends .entry)) (now (lit .entry)) first count (now (marks .entry)) r ⌝ }
 {
     let stop = first + count;
     let mut r = first;
     while r < stop {
-        let row = code::row_at(flat, ends, Row(r));
+        let row = read_row(flat, ends, lit, Row(r));
         let found = open_in(n, row, marks);
         if let Open::One(q) = found {
             return Dangling::At(Row(r), q);

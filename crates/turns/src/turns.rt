@@ -151,7 +151,7 @@ fn make_turn(
     requires { ⌜ (live ≤ budget) × (budget ≤ 63) × Topped n live (now forms) × (below n (λ q. not (isOpen (view n (now marks)) q)) ≡ false) ⌝ }
     ensures { λ m. ⌜ Moved n (record { flat = now (flat .entry); ends = now (ends .entry); lit = now (lit .entry); first = first; count = count }) (now (degrees .entry)) budget live (record { marks = now (marks .entry); forms = now (forms .entry) }) (record { marks = now (marks .exit); forms = now (forms .exit) }) m ⌝ }
 {
-    let found = rows::find_dangling(n, flat, ends, first, count, marks);
+    let found = rows::find_dangling(n, flat, ends, lit, first, count, marks);
     if let Dangling::At(r, p) = found {
         return Move::Made(peel(n, flat, ends, lit, first, count, r, p, live, marks, forms));
     }

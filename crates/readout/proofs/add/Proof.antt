@@ -17,21 +17,21 @@ refused-requires : tie.Need-refused-requires
 refused-requires c κs = search needs
 
 returns : tie.Need-returns
-returns c = mark-refused _ _ _ _ _ _ _ Codeless (reply-codeless _ _ _ _ _ _ (c .refused .result) (sym (c .before .before .codeless .ensures) ∙ c .before .if1 .taken)) (c .refused .ensures)
+returns c = mark-refused _ _ _ _ _ _ _ _ Codeless (reply-codeless _ _ _ _ _ _ (sym (c .before .before .codeless .ensures) ∙ c .before .if1 .taken)) (c .refused .ensures)
 
 refused-requires-2 : tie.Need-refused-requires-2
 refused-requires-2 c κs = search needs
 
 returns-2 : tie.Need-returns-2
 returns-2 c =
-    mark-refused _ _ _ _ _ _ _ Range (reply-range _ _ _ _ _ _ (c .refused2 .result) (sym (c .before .before .before .codeless .ensures) ∙ c .before .before .if1 .left) (le-leb _ _ (c .before .if2 .taken))) (c .refused2 .ensures)
+    mark-refused _ _ _ _ _ _ _ _ Range (reply-range _ _ _ _ _ _ (sym (c .before .before .before .codeless .ensures) ∙ c .before .before .if1 .left) (le-leb _ _ (c .before .if2 .taken))) (c .refused2 .ensures)
 
 refused-requires-3 : tie.Need-refused-requires-3
 refused-requires-3 c κs = search needs
 
 returns-3 : tie.Need-returns-3
 returns-3 c =
-    mark-refused _ _ _ _ _ _ _ Short (reply-short _ _ _ _ _ _ (c .refused3 .result) (sym (c .before .before .before .before .codeless .ensures) ∙ c .before .before .before .if1 .left) (lt-leb _ _ (c .before .before .if2 .left)) (c .before .if3 .taken)) (c .refused3 .ensures)
+    mark-refused _ _ _ _ _ _ _ _ Short (reply-short _ _ _ _ _ _ (sym (c .before .before .before .before .codeless .ensures) ∙ c .before .before .before .if1 .left) (lt-leb _ _ (c .before .before .if2 .left)) (c .before .if3 .taken)) (c .refused3 .ensures)
 
 add-at : tie.Need-add-at
 add-at c = search needs
@@ -47,8 +47,8 @@ same-length c = search needs
 
 returns-4 : tie.Need-returns-4
 returns-4 c =
-    mark-refused _ _ _ _ _ _ _ Twice
-    (reply-twice _ _ _ _ _ _ (c .refused4 .result) (sym (c .before .before .before .before .before .before .before .codeless .ensures) ∙ c .before .before .before .before .before .before .if1 .left) (lt-leb _ _ (c .before .before .before .before .before .if2 .left)) (c .before .before .before .before .if3 .left) (sym (c .before .before .marked .ensures) ∙ c .before .if4 .taken))
+    mark-refused _ _ _ _ _ _ _ _ Twice
+    (reply-twice _ _ _ _ _ _ (sym (c .before .before .before .before .before .before .before .codeless .ensures) ∙ c .before .before .before .before .before .before .if1 .left) (lt-leb _ _ (c .before .before .before .before .before .if2 .left)) (c .before .before .before .before .if3 .left) (sym (c .before .before .marked .ensures) ∙ c .before .if4 .taken))
     (c .refused4 .ensures)
 
 begin-requires : tie.Need-begin-requires
@@ -67,8 +67,8 @@ returns-5 : tie.Need-returns-5
 returns-5 c =
     let m = c .before .before .before .before .before .before .before .before .before .before in
     let r : Reply = record { state = c .opened .result; answer = Taken } in
-    mark-taken _ _ _ _ _ _ r _ _
-    (reply-taken _ _ _ _ _ _ r (sym (m .before .before .before .before .before .codeless .ensures) ∙ m .before .before .before .before .if1 .left) (lt-leb _ _ (m .before .before .before .if2 .left)) (m .before .before .if3 .left) (sym (m .marked .ensures) ∙ c .before .before .before .before .before .before .before .before .before .if4 .left))
+    mark-taken _ _ _ _ _ _ _ r _ _
+    (reply-taken _ _ _ _ _ _ (sym (m .before .before .before .before .before .codeless .ensures) ∙ m .before .before .before .before .if1 .left) (lt-leb _ _ (m .before .before .before .if2 .left)) (m .before .before .if3 .left) (sym (m .marked .ensures) ∙ c .before .before .before .before .before .before .before .before .before .if4 .left))
     (ap (λ (x : State). record { state = x; answer = Taken }) (c .opened .ensures)) (c .before .before .before .before .before .before .before .begin .ensures) (c .before .before .before .mark .ensures)
 
 pub add-spec : {M : Type 1} → statement M

@@ -31,6 +31,9 @@ enum-told-4 c = search needs
 enum-known-s-2 : tie.Need-enum-known-s-2
 enum-known-s-2 c = search needs
 
+enum-known-s-3 : tie.Need-enum-known-s-3
+enum-known-s-3 c = search needs
+
 enum-told-5 : tie.Need-enum-told-5
 enum-told-5 c = search needs
 
@@ -55,6 +58,9 @@ returns-6 c = search needs
 returns-7 : tie.Need-returns-7
 returns-7 c = search needs
 
+returns-8 : tie.Need-returns-8
+returns-8 c = search needs
+
 pub length-of-spec : {M : Type 1} → statement M
 length-of-spec =
     tie.close
@@ -68,6 +74,7 @@ length-of-spec =
     add-result
     enum-told-4
     enum-known-s-2
+    enum-known-s-3
     enum-told-5
     returns
     returns-2
@@ -75,4 +82,5 @@ length-of-spec =
     returns-4
     returns-5
     returns-6
-    returns-7)
+    returns-7
+    returns-8)

@@ -1,9 +1,13 @@
 -- `reading::shapes::named` meets its contract. Assumes nothing.
+use Prim.Native.Nat.{ℕ, _+_, _-_, _≤_}
 use native.Mathlib.Omega.{arith}
-use Rattle.records.proofs.KindBytes.{kind-size, kind-lost, kind-lit-z, kind-lit-x, kind-decode, kind-low, kind-row-x, kind-mid, kind-row-z, kind-high}
+use Rattle.records.proofs.KindBytes.{NoNumber, kind-size, kind-lost, kind-lit-z, kind-lit-x, kind-decode, kind-unread-z, kind-unread-x, kind-low, kind-row-x, kind-mid, kind-row-z, kind-high}
 use borrow.Author.Needs.{needs}
 use Rattle.reading.proofs.shapes.named.Statement.{statement}
 use Rattle.reading.proofs.shapes.named.Tie as tie
+
+width : (b low : ℕ) → b ≤ low + 16 → b - low ≤ 16
+width b low h = omega arith
 
 returns : tie.Need-returns
 returns c = (kind-size _ (c .if1 .taken), omega arith)
@@ -21,25 +25,41 @@ returns-5 : tie.Need-returns-5
 returns-5 c = (kind-decode _ (c .if5 .taken), omega arith)
 
 returns-6 : tie.Need-returns-6
-returns-6 c = (kind-low _ (c .before .before .before .before .before .if1 .left) (c .before .before .before .before .if2 .left) (c .before .before .before .if3 .left) (c .before .before .if4 .left) (c .before .if5 .left) (omega arith), omega arith)
+returns-6 c = (kind-unread-z _ (c .if6 .taken), omega arith)
+
+returns-7 : tie.Need-returns-7
+returns-7 c = (kind-unread-x _ (c .if7 .taken), omega arith)
+
+returns-8 : tie.Need-returns-8
+returns-8 c =
+    let none : NoNumber _ = record {
+      n1 = c .before .before .before .before .before .before .before .if1 .left;
+      n2 = c .before .before .before .before .before .before .if2 .left;
+      n3 = c .before .before .before .before .before .if3 .left;
+      n4 = c .before .before .before .before .if4 .left;
+      n5 = c .before .before .before .if5 .left;
+      n6 = c .before .before .if6 .left;
+      n7 = c .before .if7 .left;
+    } in
+    (kind-low _ none (omega arith), omega arith)
 
 sub-t3 : tie.Need-sub-t3
 sub-t3 c = search needs
 
-returns-7 : tie.Need-returns-7
-returns-7 c = (kind-row-x _ (c .before .before .before .before .before .before .if1 .left) (c .before .before .before .before .before .if2 .left) (c .before .before .before .before .if3 .left) (c .before .before .before .if4 .left) (c .before .before .if5 .left) (omega arith) (omega arith), omega arith)
+returns-9 : tie.Need-returns-9
+returns-9 c = (kind-row-x _ (omega arith) (omega arith), width _ 32 (omega arith))
 
-returns-8 : tie.Need-returns-8
-returns-8 c = (kind-mid _ (c .before .before .before .before .before .before .before .if1 .left) (c .before .before .before .before .before .before .if2 .left) (c .before .before .before .before .before .if3 .left) (c .before .before .before .before .if4 .left) (c .before .before .before .if5 .left) (omega arith) (omega arith), omega arith)
+returns-10 : tie.Need-returns-10
+returns-10 c = (kind-mid _ (omega arith) (omega arith), omega arith)
 
 sub-t4 : tie.Need-sub-t4
 sub-t4 c = search needs
 
-returns-9 : tie.Need-returns-9
-returns-9 c = (kind-row-z _ (c .before .before .before .before .before .before .before .before .if1 .left) (c .before .before .before .before .before .before .before .if2 .left) (c .before .before .before .before .before .before .if3 .left) (c .before .before .before .before .before .if4 .left) (c .before .before .before .before .if5 .left) (omega arith) (omega arith), omega arith)
+returns-11 : tie.Need-returns-11
+returns-11 c = (kind-row-z _ (omega arith) (omega arith), width _ 64 (omega arith))
 
-returns-10 : tie.Need-returns-10
-returns-10 c = (kind-high _ (c .before .before .before .before .before .before .before .before .if1 .left) (c .before .before .before .before .before .before .before .if2 .left) (c .before .before .before .before .before .before .if3 .left) (c .before .before .before .before .before .if4 .left) (c .before .before .before .before .if5 .left) (omega arith), omega arith)
+returns-12 : tie.Need-returns-12
+returns-12 c = (kind-high _ (omega arith), omega arith)
 
 pub named-spec : {M : Type 1} → statement M
 named-spec =
@@ -51,9 +71,11 @@ named-spec =
     returns-4
     returns-5
     returns-6
-    sub-t3
     returns-7
     returns-8
-    sub-t4
+    sub-t3
     returns-9
-    returns-10)
+    returns-10
+    sub-t4
+    returns-11
+    returns-12)

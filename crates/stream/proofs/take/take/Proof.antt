@@ -1,6 +1,7 @@
 -- `stream::take::take` meets its contract, kind by kind. Assumes nothing.
-use Rattle.stream.proofs.Taking.{at-row, take-unknown, take-length, take-size, take-row, take-lose, take-light, take-no-decode}
+use Rattle.stream.proofs.Taking.{at-row, at-lose, at-light, at-unread, take-unknown, take-length, take-size, take-row, take-add, take-no-decode}
 use borrow.Author.Needs.{needs}
+use Rattle.records.specs.Records.{pauli, lost, lit, unread}
 use Rattle.stream.proofs.take.take.Statement.{statement}
 use Rattle.stream.proofs.take.take.Tie as tie
 
@@ -55,8 +56,17 @@ enum-known-shape-2 c = search needs
 number-requires-5 : tie.Need-number-requires-5
 number-requires-5 c κs = search needs
 
-light-requires : tie.Need-light-requires
-light-requires c κs = search needs
+note-row-requires : tie.Need-note-row-requires
+note-row-requires c κs = search needs
+
+enum-known-shape-3 : tie.Need-enum-known-shape-3
+enum-known-shape-3 c = search needs
+
+number-requires-6 : tie.Need-number-requires-6
+number-requires-6 c κs = search needs
+
+note-row-requires-2 : tie.Need-note-row-requires-2
+note-row-requires-2 c κs = search needs
 
 enum-told-5 : tie.Need-enum-told-5
 enum-told-5 c = search needs
@@ -86,16 +96,28 @@ same-length-3 : tie.Need-same-length-3
 same-length-3 c = search needs
 
 returns-5 : tie.Need-returns-5
-returns-5 c = take-lose _ _ (c .before .before .before .before .before .before .before .before .before .before .before .pre .0) _ _ _ _ _ _ (c .before .before .before .before .before .enum-told4 .given .1) _ (c .before .before .before .before .number4 .ensures) _ (c .before .before .lose .ensures)
+returns-5 c =
+    let pre = c .before .before .before .before .before .before .before .before .before .before .before .pre .0 in
+    take-add _ _ pre _ _ _ _ _ _ lost (at-lose _ _ pre (c .before .before .before .before .before .enum-told4 .given .1)) _ (c .before .before .before .before .number4 .ensures) _ (c .before .before .lose .ensures)
 
 same-length-4 : tie.Need-same-length-4
 same-length-4 c = search needs
 
 returns-6 : tie.Need-returns-6
-returns-6 c = take-light _ _ (c .before .before .before .before .before .before .before .before .before .before .before .before .pre .0) _ _ _ _ _ _ _ (c .before .before .before .before .before .before .shape2 .given .1) _ (c .before .before .before .before .number5 .ensures) _ (c .before .before .light .ensures)
+returns-6 c =
+    let pre = c .before .before .before .before .before .before .before .before .before .before .before .before .pre .0 in
+    take-add _ _ pre _ _ _ _ _ _ (lit (pauli (c .before .before .before .before .before .before .shape2 .given .0 .0))) (at-light _ _ pre _ (c .before .before .before .before .before .before .shape2 .given .1)) _ (c .before .before .before .before .number5 .ensures) _ (c .before .before .note-row .ensures)
+
+same-length-5 : tie.Need-same-length-5
+same-length-5 c = search needs
 
 returns-7 : tie.Need-returns-7
-returns-7 c = take-no-decode _ _ (c .before .before .before .before .before .before .before .pre .0) (c .before .before .before .before .before .before .before .pre .1) (c .before .enum-told5 .given .1)
+returns-7 c =
+    let pre = c .before .before .before .before .before .before .before .before .before .before .before .before .pre .0 in
+    take-add _ _ pre _ _ _ _ _ _ (unread (pauli (c .before .before .before .before .before .before .shape3 .given .0 .0))) (at-unread _ _ pre _ (c .before .before .before .before .before .before .shape3 .given .1)) _ (c .before .before .before .before .number6 .ensures) _ (c .before .before .note-row2 .ensures)
+
+returns-8 : tie.Need-returns-8
+returns-8 c = take-no-decode _ _ (c .before .before .before .before .before .before .before .pre .0) (c .before .before .before .before .before .before .before .pre .1) (c .before .enum-told5 .given .1)
 
 pub take-spec : {M : Type 1} → statement M
 take-spec =
@@ -118,7 +140,10 @@ take-spec =
     lose-requires
     enum-known-shape-2
     number-requires-5
-    light-requires
+    note-row-requires
+    enum-known-shape-3
+    number-requires-6
+    note-row-requires-2
     enum-told-5
     refused-requires-3
     returns
@@ -131,4 +156,6 @@ take-spec =
     returns-5
     same-length-4
     returns-6
-    returns-7)
+    same-length-5
+    returns-7
+    returns-8)

@@ -9,10 +9,10 @@ use Rattle.turns.proofs.guesses.count_rows.Statement.{statement}
 use Rattle.turns.proofs.guesses.count_rows.Tie as tie
 
 abbrev Inv-loop : tie.InvT-loop
-Inv-loop n flat ends first count degrees₀ stop r₀ degrees r = (first ≤ r) × (length degrees ≡ length degrees₀) × Counting n flat ends first count degrees r
+Inv-loop n flat ends lit first count degrees₀ stop r₀ degrees r = (first ≤ r) × (length degrees ≡ length degrees₀) × Counting n flat ends lit first count degrees r
 
 abbrev μ-loop : tie.MeasureT-loop
-μ-loop n flat ends first count degrees₀ stop r₀ degrees r = stop - r
+μ-loop n flat ends lit first count degrees₀ stop r₀ degrees r = stop - r
 
 clear-words-requires : tie.Need-clear-words-requires Inv-loop μ-loop
 clear-words-requires c κs = search needs
@@ -21,17 +21,17 @@ add-stop : tie.Need-add-stop Inv-loop μ-loop
 add-stop c = search needs
 
 loop-holds : tie.Need-loop-holds Inv-loop μ-loop
-loop-holds c = (search needs, refl, counting-start _ _ _ _ _ _ _ (c .before .before .clear-words .ensures))
+loop-holds c = (search needs, refl, counting-start _ _ _ _ _ _ _ _ (c .before .before .clear-words .ensures))
 
-row-at-requires : tie.Need-row-at-requires Inv-loop μ-loop
-row-at-requires c κs = search needs
+read-row-requires : tie.Need-read-row-requires Inv-loop μ-loop
+read-row-requires c κs = search needs
 
 add-row-requires : tie.Need-add-row-requires Inv-loop μ-loop
 add-row-requires c κs =
     let at = c .before .before .before in
     let ends = at .before .before .before .before .before .before in (
       search needs,
-      counting-room _ _ _ _ _ _ _ (at .loop .inv .2) _ (c .before .row-at .ensures) (search needs) (λ i. omega (arith, ends .shared-slice-known2 .given i)) (search needs),
+      counting-room _ _ _ _ _ _ _ _ (at .loop .inv .2) _ (c .before .read-row .ensures) (search needs) (λ i. omega (arith, ends .before .shared-slice-known2 .given i)) (search needs),
     )
 
 add-r : tie.Need-add-r Inv-loop μ-loop
@@ -46,7 +46,7 @@ loop-again c =
     let added = c .before .before .add-row .ensures in (
       search needs,
       added .long ∙ at .loop .inv .1,
-      counting-turn _ _ _ _ _ _ _ (at .loop .inv .2) _ (c .before .before .before .before .row-at .ensures) (search needs) _ added,
+      counting-turn _ _ _ _ _ _ _ _ (at .loop .inv .2) _ (c .before .before .before .before .read-row .ensures) (search needs) _ added,
     )
 
 same-length : tie.Need-same-length Inv-loop μ-loop
@@ -55,7 +55,7 @@ same-length c = c .before .loop .inv .1 ∙ c .before .before .before .before .c
 returns : tie.Need-returns Inv-loop μ-loop
 returns c =
     let at = c .before in
-    counting-end _ _ _ _ _ _ _ (at .loop .inv .2) _ (search needs) (at .loop .inv .1 ∙ at .before .before .before .clear-words .ensures .long)
+    counting-end _ _ _ _ _ _ _ _ (at .loop .inv .2) _ (search needs) (at .loop .inv .1 ∙ at .before .before .before .clear-words .ensures .long)
 
 pub count-rows-spec : {M : Type 1} → statement M
 count-rows-spec =
@@ -66,7 +66,7 @@ count-rows-spec =
     clear-words-requires
     add-stop
     loop-holds
-    row-at-requires
+    read-row-requires
     add-row-requires
     add-r
     loop-less

@@ -21,19 +21,19 @@ other d t q e =
     ⊎-elim (λ i. omega arith) (λ i. omega arith) (subst (λ (x : Open). OneOf (0 ∷ 2 ∷ []) (tagOf the-type x)) e t)
 
 abbrev Inv-loop : tie.InvT-loop
-Inv-loop n flat ends first count marks stop r₀ r = (first ≤ r) × Looking n flat ends first count marks r
+Inv-loop n flat ends lit first count marks stop r₀ r = (first ≤ r) × Looking n flat ends lit first count marks r
 
 abbrev μ-loop : tie.MeasureT-loop
-μ-loop n flat ends first count marks stop r₀ r = stop - r
+μ-loop n flat ends lit first count marks stop r₀ r = stop - r
 
 add-stop : tie.Need-add-stop Inv-loop μ-loop
 add-stop c = search needs
 
 loop-holds : tie.Need-loop-holds Inv-loop μ-loop
-loop-holds c = (search needs, looking-start _ _ _ _ _ _)
+loop-holds c = (search needs, looking-start _ _ _ _ _ _ _)
 
-row-at-requires : tie.Need-row-at-requires Inv-loop μ-loop
-row-at-requires c κs = search needs
+read-row-requires : tie.Need-read-row-requires Inv-loop μ-loop
+read-row-requires c κs = search needs
 
 open-in-requires : tie.Need-open-in-requires Inv-loop μ-loop
 open-in-requires c κs = search needs
@@ -44,7 +44,7 @@ enum-known-found c = search needs
 returns : tie.Need-returns Inv-loop μ-loop
 returns c =
     let at = c .before .before .before .before .before .before in
-    looking-found _ _ _ _ _ _ _ (at .loop .inv .1) _ (c .before .before .before .before .row-at .ensures) (search needs) _ (search needs)
+    looking-found _ _ _ _ _ _ _ _ (at .loop .inv .1) _ (c .before .before .before .before .read-row .ensures) (search needs) _ (search needs)
     (sym (c .before .found .given .1) ∙ c .before .before .before .open-in .ensures)
 
 add-r : tie.Need-add-r Inv-loop μ-loop
@@ -57,11 +57,11 @@ loop-again : tie.Need-loop-again Inv-loop μ-loop
 loop-again c =
     let at = c .before .before .before .before in (
       search needs,
-      looking-turn _ _ _ _ _ _ _ (at .loop .inv .1) _ (c .before .before .row-at .ensures) (search needs) _ (c .before .open-in .ensures) (other _ (c .match .keys2)),
+      looking-turn _ _ _ _ _ _ _ _ (at .loop .inv .1) _ (c .before .before .read-row .ensures) (search needs) _ (c .before .open-in .ensures) (other _ (c .match .keys2)),
     )
 
 returns-2 : tie.Need-returns-2 Inv-loop μ-loop
-returns-2 c = looking-end _ _ _ _ _ _ _ (c .before .loop .inv .1) (search needs)
+returns-2 c = looking-end _ _ _ _ _ _ _ _ (c .before .loop .inv .1) (search needs)
 
 pub find-dangling-spec : {M : Type 1} → statement M
 find-dangling-spec =
@@ -71,7 +71,7 @@ find-dangling-spec =
     μ-loop
     add-stop
     loop-holds
-    row-at-requires
+    read-row-requires
     open-in-requires
     enum-known-found
     returns
