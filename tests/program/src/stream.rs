@@ -40,7 +40,9 @@ fn decode(budget: u8, lines: &[&str]) -> Record {
 pub fn stream(seed: u64, empty: usize, few: usize, many: usize) -> Vec<Record> {
     let mut random = Random::new(seed);
     let mut records = vec![record(1, &[SMALL, 0, 0], &["code 64 0 0\n"])];
-    records.extend((0..empty).map(|_| decode(63, &["X certain 0 0 0 0 flip\n", "Z certain 0 0 0 0 flip\n"])));
+    records.extend(
+        (0..empty).map(|_| decode(63, &["X certain 0 0 0 0 flip\n", "Z certain 0 0 0 0 flip\n"])),
+    );
     for _ in 0..few {
         shot(&mut records, &mut random, SMALL, 0);
     }
@@ -78,7 +80,9 @@ fn shot(records: &mut Vec<Record>, random: &mut Random, n: usize, rows: usize) {
     match (random.below(24), named) {
         (0, _) => spoiled(records, record(LOST, &[n], &["refused 8 2\n"])),
         (1, _) => spoiled(records, record(UNREAD_Z, &[rows], &["refused 8 6\n"])),
-        (2, Some((kind, row))) => spoiled(records, record(kind, &[row], &[&format!("refused 9 {kind}\n")])),
+        (2, Some((kind, row))) => {
+            spoiled(records, record(kind, &[row], &[&format!("refused 9 {kind}\n")]))
+        }
         (3 | 4, _) => records.push(decode(64, &["refused 10 5\n"])),
         _ => records.push(decode(63, &["X ", "Z "])),
     }

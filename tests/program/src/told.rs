@@ -121,7 +121,8 @@ fn open_shot(setup: &Setup) -> Checked {
 }
 
 fn equal_refusals(setup: &Setup) -> Checked {
-    let input = [four(), lost(4), lost(0), lost(5), lost(6), DECODE.to_vec(), lost(7), lost(8)].concat();
+    let input =
+        [four(), lost(4), lost(0), lost(5), lost(6), DECODE.to_vec(), lost(7), lost(8)].concat();
     let lines = "code 4 1 1\nrefused 8 2\nrefused 8 2\nrefused 8 2\nrefused 11 5\nrefused 8 2\nrefused 8 2\n";
     let expected = "shots: record 4 at byte 25, kind 2: refused 8 range: qubit 4 of 4 qubits\n\
         shots: 2 more refused with 8\n\
@@ -148,6 +149,7 @@ fn wanted(setup: &Setup, records: &[&[u8]], expected: &str) -> Checked {
     }
 }
 
+#[rustfmt::skip]
 fn each_refusal(setup: &Setup) -> Checked {
     let odd: &[u8] = &[65, 0, 0];
     let cases: [(&[&[u8]], &str); 28] = [
@@ -221,7 +223,14 @@ fn version(setup: &Setup) -> Checked {
 }
 
 fn another_argument(setup: &Setup) -> Checked {
-    for arguments in [&["records"][..], &[""], &["--helpful"], &["-"], &["--help", "--version"], &[&"x".repeat(9_000)]] {
+    for arguments in [
+        &["records"][..],
+        &[""],
+        &["--helpful"],
+        &["-"],
+        &["--help", "--version"],
+        &[&"x".repeat(9_000)],
+    ] {
         let actual = argument(setup, arguments)?;
         same("standard output", &actual.0, "")?;
         let expected = "shots: takes no argument but --help or --version; records are read from standard input\n";
