@@ -7,7 +7,7 @@ use crate::machine;
 use crate::random::Random;
 use crate::shot::Shot;
 
-/// Half of the shots have unread rows.
+/// Half of the shots may have unread rows.
 pub fn shot(random: &mut Random, code: &Code) -> Shot {
     let mut shot = Shot::empty(code);
     shot.sets[0] = lost(random, code);
