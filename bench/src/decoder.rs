@@ -1,6 +1,6 @@
 //! The elimination decoder of a stream. It takes the library's records, but trusts them.
 
-use crate::eliminate::{Found, Half};
+use crate::eliminate::{Found, Half, Shot};
 use crate::matrix::Matrix;
 use judge::codes::Code;
 use judge::half::Row;
@@ -16,6 +16,8 @@ pub struct Decoder {
     lost: Vec<u16>,
     /// The lit Z rows and the lit X rows.
     lit: [Vec<u16>; 2],
+    /// The unread Z rows and the unread X rows.
+    unread: [Vec<u16>; 2],
     matrix: Matrix,
 }
 
@@ -38,6 +40,7 @@ impl Decoder {
             halves: Vec::new(),
             lost: Vec::new(),
             lit: Default::default(),
+            unread: Default::default(),
             matrix: Matrix::default(),
         }
     }
@@ -49,6 +52,7 @@ impl Decoder {
             2 => self.lost.push(number(body)),
             3 | 4 => self.lit[usize::from(kind - 3)].push(number(body)),
             5 => return self.decode(),
+            6 | 7 => self.unread[usize::from(kind - 6)].push(number(body)),
             _ => {
                 let row = body.chunks_exact(2).map(|pair| number(pair).into());
                 return self.take_row(kind & X_ROW != 0, row.collect());
@@ -76,15 +80,17 @@ impl Decoder {
         }
         self.halves = vec![Half::new(*n, z, x), Half::new(*n, x, z)];
         self.lost.clear();
-        self.lit.iter_mut().for_each(Vec::clear);
+        self.lit.iter_mut().chain(&mut self.unread).for_each(Vec::clear);
         Answer::Complete
     }
 
     fn decode(&mut self) -> Answer {
         self.lost.sort_unstable_by(|a, b| b.cmp(a));
         for (at, half) in self.halves.iter().enumerate() {
-            half.decode(&self.lost, &self.lit[at], &mut self.matrix, &mut self.found[at]);
+            let shot = Shot { lost: &self.lost, lit: &self.lit[at], unread: &self.unread[at] };
+            half.decode(&shot, &mut self.matrix, &mut self.found[at]);
             self.lit[at].clear();
+            self.unread[at].clear();
         }
         self.lost.clear();
         Answer::Decoded

@@ -1,5 +1,5 @@
-//! A half by elimination: one elimination, on the lost qubits alone, of the checks with their
-//! lit bits and then of the logical operators.
+//! A half by elimination: one elimination, on the lost qubits alone, of the checks that were read
+//! with their lit bits, and then of the logical operators and the other checks.
 
 use crate::codes::logicals;
 use crate::matrix::Matrix;
@@ -33,6 +33,13 @@ impl Found {
     }
 }
 
+/// The lost qubits, descending, and the lit and the unread checks of a half.
+pub struct Shot<'a> {
+    pub lost: &'a [u16],
+    pub lit: &'a [u16],
+    pub unread: &'a [u16],
+}
+
 /// The checks of a half and, numbered from the next multiple of 64 on, its logical operators.
 pub struct Half {
     checks: usize,
@@ -52,10 +59,12 @@ impl Half {
         Half { checks: first, rows: first + logicals.len().next_multiple_of(64), on }
     }
 
-    /// The lost qubits descend. An error on them that no row tells from nothing is a product of
-    /// other-kind rows, and a column where no row leads is the lowest qubit of one: it is fixed.
-    pub fn decode(&self, lost: &[u16], lit: &[u16], matrix: &mut Matrix, found: &mut Found) {
-        matrix.start(self.rows, lost.len());
+    /// An error on the lost qubits that no row tells from nothing is a product of other-kind rows,
+    /// and a column where no row leads is the lowest qubit of one: it is fixed.
+    pub fn decode(&self, shot: &Shot, matrix: &mut Matrix, found: &mut Found) {
+        let Shot { lost, lit, unread } = *shot;
+        let rows = self.rows + unread.len().next_multiple_of(64);
+        matrix.start(rows, lost.len());
         for (column, &qubit) in lost.iter().enumerate() {
             for &row in &self.on[usize::from(qubit)] {
                 matrix.set(row.into(), column);
@@ -64,13 +73,16 @@ impl Half {
         for &row in lit {
             matrix.set(row.into(), lost.len());
         }
+        for (to, &row) in (self.rows..).zip(unread) {
+            matrix.shift(row.into(), to);
+        }
         let checks = matrix.reduce(0..self.checks);
         found.fits = !checks.contradiction;
         found.flips.clear();
         if found.fits {
             matrix.solve(|column| found.flips.push(lost[column]));
         }
-        found.classes = matrix.reduce(self.checks..self.rows).rank;
+        found.classes = matrix.reduce(self.checks..rows).rank;
         found.fixed = lost.len() - checks.rank - found.classes;
     }
 }

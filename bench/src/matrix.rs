@@ -40,6 +40,15 @@ impl Matrix {
         self.filled[row / 64] |= 1 << (row % 64);
     }
 
+    /// Moves a row to a later place that is empty.
+    pub fn shift(&mut self, from: usize, to: usize) {
+        let filled = self.filled[from / 64] >> (from % 64) & 1;
+        self.filled[from / 64] &= !(1 << (from % 64));
+        self.filled[to / 64] |= filled << (to % 64);
+        let start = from * self.width;
+        self.words.copy_within(start..start + self.width, to * self.width);
+    }
+
     /// Reduces rows, each by all those before it. The range is of multiples of 64.
     pub fn reduce(&mut self, rows: Range<usize>) -> Reduced {
         let mut reduced = Reduced::default();

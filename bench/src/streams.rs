@@ -30,7 +30,8 @@ impl Stream {
     }
 }
 
-/// Each qubit is lost with the given percentage; a lost one has each error half of the time.
+/// Each qubit is lost with the given percentage; a lost one has each error half of the time. Every
+/// row is read.
 pub fn shot(code: &Code, loss: usize, random: &mut Random) -> Vec<u8> {
     let n = code.n;
     let lost = Bits::of(n, (0..n).filter(|_| random.percent(loss)));
@@ -39,8 +40,9 @@ pub fn shot(code: &Code, loss: usize, random: &mut Random) -> Vec<u8> {
         Bits::of(rows.len(), (0..rows.len()).filter(|&at| odd(&rows[at], &error)))
     };
     let (lit_z, lit_x) = (lit(&code.z), lit(&code.x));
-    let shot = records::shot(&Shot { sets: [lost, lit_z, lit_x] });
-    [shot.concat(), records::decode(Asked::AMPLE)].concat()
+    let [.., unread_z, unread_x] = Shot::empty(code).sets;
+    let shot = Shot { sets: [lost, lit_z, lit_x, unread_z, unread_x] };
+    [records::shot(&shot).concat(), records::decode(Asked::AMPLE)].concat()
 }
 
 /// The records of bytes that hold whole ones of known kinds.

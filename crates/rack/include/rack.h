@@ -3,8 +3,8 @@
  * A program starts a `struct rack`, loads a code and sends shots: functions below make the records, `rack_take` takes one and hands back the answer.
  * README.md has the tables of records, words and refusals; examples/c/steane.c is a whole program.
  *
- * Which half reads which rows: the X half holds X errors, found from the Z rows, so `rack_lit_z` is about the X half. The Z half holds Z errors,
- * found from the X rows, so `rack_lit_x` is about the Z half. Nothing can object to the two exchanged.
+ * Which half reads which rows: the X half holds X errors, found from the Z rows, so `rack_lit_z` and `rack_unread_z` are about the X half. The Z half
+ * holds Z errors, found from the X rows, so `rack_lit_x` and `rack_unread_x` are about the Z half. Nothing can object to the two exchanged.
  */
 #ifndef RACK_H
 #define RACK_H
@@ -27,7 +27,7 @@ extern "C" {
 /* ---- Numbers ---- */
 
 /* The version of records, lists and structs. */
-#define RACK_VERSION 1
+#define RACK_VERSION 2
 
 /* The kind of a record, its first byte. A row's is this and as many more as it has qubits. */
 enum rack_kind {
@@ -36,6 +36,8 @@ enum rack_kind {
     RACK_KIND_LIT_Z = 3,
     RACK_KIND_LIT_X = 4,
     RACK_KIND_DECODE = 5,
+    RACK_KIND_UNREAD_Z = 6,
+    RACK_KIND_UNREAD_X = 7,
     RACK_KIND_X_ROW = 32,
     RACK_KIND_Z_ROW = 64
 };
@@ -138,7 +140,8 @@ struct rack_state rack_fresh(void);
 /* One record on lists of the caller's; `rack_take` is this on a `struct rack`.
  *
  * State, `flat`, `ends` and `shot` pass from call to call as the last call left them, also where it refused; nobody else writes them in between. The
- * work list and the six lists of a decode may be others at every call. After RACK_ANSWER_DECODED the first n elements of a half's lists are its
+ * work list and the six lists of a decode may be others at every call. `shot` has 1 for each lost qubit, else 0, and from element 1,024 on, the X rows
+ * first, 1 for each lit row, 2 for each unread one, else 0. After RACK_ANSWER_DECODED the first n elements of a half's lists are its
  * marks, its forms (bit 0 the constant, bit k the k-th live guess) and its correction: 1 for each qubit to flip if it is certain or unsure, else all 0.
  *
  * The caller owes: pointers that are not null, aligned for their elements and good for the length given; lists that do not overlap.
@@ -221,7 +224,8 @@ static inline struct rack_record rack_z_row(const uint16_t *qubits, size_t weigh
     return rack_of_row(RACK_KIND_Z_ROW, qubits, weight);
 }
 
-/* A qubit was lost. */
+/* A qubit was lost. This and the four below are refused without a complete code (RACK_REFUSAL_CODELESS), where there is no such qubit or row
+ * (RACK_REFUSAL_RANGE), and for a qubit that is lost already or a row that is lit or unread already (RACK_REFUSAL_TWICE). */
 static inline struct rack_record rack_lost(size_t qubit) {
     return rack_of_number(RACK_KIND_LOST, qubit);
 }
@@ -234,6 +238,16 @@ static inline struct rack_record rack_lit_z(size_t row) {
 /* An X row fired: about the Z half. */
 static inline struct rack_record rack_lit_x(size_t row) {
     return rack_of_number(RACK_KIND_LIT_X, row);
+}
+
+/* A Z row could not be read: the X half is found without it. For the Z half it is a row of the other kind all the same. */
+static inline struct rack_record rack_unread_z(size_t row) {
+    return rack_of_number(RACK_KIND_UNREAD_Z, row);
+}
+
+/* An X row could not be read: the Z half is found without it. For the X half it is a row of the other kind all the same. */
+static inline struct rack_record rack_unread_x(size_t row) {
+    return rack_of_number(RACK_KIND_UNREAD_X, row);
 }
 
 /* Reports both halves and ends the shot. RACK_MOST_BUDGET and RACK_MOST_LIMIT unless you know better. A budget that a byte can't hold is handed over as

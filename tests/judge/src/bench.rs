@@ -1,10 +1,10 @@
-//! The bench shots of document 01 and its printed example.
+//! The bench shots of document 01 and its printed example, and shots with unread rows.
 
 use crate::codes::{set, Code};
 use crate::half::Asked;
 use crate::known::{four, seven};
 use crate::records;
-use crate::shot::{Decode, Shot};
+use crate::shot::{size, Decode, Shot};
 use crate::stream::Record;
 use std::rc::Rc;
 
@@ -16,13 +16,23 @@ pub struct Bench {
 }
 
 pub fn all() -> Vec<Bench> {
+    document().into_iter().chain(unread()).collect()
+}
+
+pub fn document() -> Vec<Bench> {
     proved().into_iter().chain(run_only()).chain([example()]).collect()
 }
 
 fn shot(name: &str, code: Code, sets: [&[usize]; 2], asked: [usize; 2], line: &str) -> Bench {
+    made(name, code, [sets[0], sets[1], &[], &[]], asked, line)
+}
+
+/// A shot by its sets of the kinds 2, 3, 6 and 7, and its X half's line.
+fn made(name: &str, code: Code, sets: [&[usize]; 4], asked: [usize; 2], line: &str) -> Bench {
     let mut shot = Shot::empty(&code);
-    shot.sets[0] = set(code.n, sets[0]);
-    shot.sets[1] = set(code.z.len(), sets[1]);
+    for (kind, numbers) in [2, 3, 6, 7].into_iter().zip(sets) {
+        *shot.set_mut(kind) = set(size(&code, kind), numbers);
+    }
     let asked = Asked { budget: asked[0], limit: asked[1] };
     let records = records::whole(&Decode { code: Rc::new(code), shot, asked });
     Bench { name: name.into(), records, lines: vec![(1, format!("X {line}"))] }
@@ -32,7 +42,6 @@ fn shot(name: &str, code: Code, sets: [&[usize]; 2], asked: [usize; 2], line: &s
 fn proved() -> [Bench; 12] {
     let all: &[usize] = &[0, 1, 2, 3];
     let even: &[usize] = &[0, 2, 4, 6];
-    let twice = Code { n: 2, x: vec![], z: vec![vec![0, 1], vec![0, 1]] };
     [
         shot("P1", four(), [&[], &[]], [0, 100], "certain 0 0 0 0 flip"),
         shot("P2", four(), [&[], &[0]], [0, 100], "none 0 0 0 0"),
@@ -45,7 +54,50 @@ fn proved() -> [Bench; 12] {
         shot("P9", seven(), [&[0, 1, 2], &[0]], [1, 100], "unsure 0 3 1 1 flip 0"),
         shot("P10", seven(), [even, &[0, 1, 2]], [1, 100], "certain 1 3 1 0 flip 6"),
         shot("P11", seven(), [even, &[0]], [1, 100], "certain 1 3 1 0 flip 2 4 6"),
-        shot("P12", twice, [&[0], &[0]], [0, 100], "none 0 1 0 0"),
+        shot("P12", twice(), [&[0], &[0]], [0, 100], "none 0 1 0 0"),
+    ]
+}
+
+fn twice() -> Code {
+    Code { n: 2, x: vec![], z: vec![vec![0, 1], vec![0, 1]] }
+}
+
+/// What unread rows make of the shots above: lost qubits, lit Z rows, unread Z rows and unread X
+/// rows.
+#[rustfmt::skip]
+pub fn unread() -> [Bench; 20] {
+    let all: &[usize] = &[0, 1, 2, 3];
+    let even: &[usize] = &[0, 2, 4, 6];
+    let three: &[usize] = &[0, 1, 2];
+    let apart = Code { n: 2, x: vec![vec![0]], z: vec![vec![1]] };
+    let mut other = made("P7, X row unread", four(), [all, &[0], &[], &[0]], [2, 100], "unsure 1 3 2 2 flip 3");
+    other.lines.push((2, "Z spent 1 2 2 2".into()));
+    [
+        // A row that contradicts the others no longer does.
+        made("P2, unread", four(), [&[], &[], &[0], &[]], [0, 100], "certain 0 0 0 0 flip"),
+        made("P12, 1 unread", twice(), [&[0], &[0], &[1], &[]], [0, 100], "certain 0 1 0 0 flip 0"),
+        made("P12, 0 unread", twice(), [&[0], &[1], &[0], &[]], [0, 100], "certain 0 1 0 0 flip 0"),
+        made("P12, 0 unread, 1 zero", twice(), [&[0], &[], &[0], &[]], [0, 100], "certain 0 1 0 0 flip"),
+        made("P12, both unread", twice(), [&[0], &[], &[0, 1], &[]], [0, 100], "spent 0 0 0 0"),
+        // Without its only row a lost qubit is a guess.
+        made("P3, unread", four(), [&[2], &[], &[0], &[]], [1, 100], "unsure 0 1 1 1 flip"),
+        made("P3, unread, budget 0", four(), [&[2], &[], &[0], &[]], [0, 100], "spent 0 0 0 0"),
+        made("P3, unread, limit 0", four(), [&[2], &[], &[0], &[]], [1, 0], "stopped 0 0 0 0"),
+        made("P4, unread", four(), [&[0, 1], &[], &[0], &[]], [2, 100], "unsure 0 2 2 2 flip"),
+        made("P7, unread", four(), [all, &[], &[0], &[]], [3, 100], "unsure 1 3 3 3 flip"),
+        made("P8, unread", four(), [all, &[], &[0], &[]], [1, 100], "spent 1 1 1 1"),
+        // It does not count for the guess, and decides none.
+        made("P9, 1 unread", seven(), [three, &[0], &[1], &[]], [2, 100], "unsure 0 3 2 2 flip 2"),
+        made("P10, 1 unread", seven(), [even, &[0, 2], &[1], &[]], [1, 100], "unsure 1 3 1 1 flip 6"),
+        made("P10, 2 unread", seven(), [even, &[0, 1], &[2], &[]], [1, 100], "unsure 1 3 1 1 flip 6"),
+        // No row of the half is read.
+        made("Seven, unread", seven(), [&[], &[], three, &[]], [0, 100], "certain 0 0 0 0 flip"),
+        made("Seven, unread, 0 lost", seven(), [&[0], &[], three, &[]], [1, 100], "unsure 0 1 1 1 flip"),
+        made("unread, a product lost", apart, [&[0], &[], &[0], &[]], [0, 100], "certain 1 0 0 0 flip"),
+        // Unread, a row of the other kind fixes qubits all the same.
+        other,
+        made("P7, both unread", four(), [all, &[], &[0], &[0]], [3, 100], "unsure 1 3 3 3 flip"),
+        made("P11, X rows unread", seven(), [even, &[0], &[], three], [1, 100], "certain 1 3 1 0 flip 2 4 6"),
     ]
 }
 

@@ -31,6 +31,13 @@ impl Bits {
         self.words[place / 64] |= 1 << (place % 64);
     }
 
+    /// Drops what the other has.
+    pub fn remove(&mut self, other: &Bits) {
+        for (word, without) in self.words.iter_mut().zip(&other.words) {
+            *word &= !without;
+        }
+    }
+
     /// Adds modulo 2.
     pub fn add(&mut self, other: &Bits) {
         for (word, with) in self.words.iter_mut().zip(&other.words) {

@@ -1,6 +1,6 @@
 //! The machine against the judge, and facts about halves, on random codes.
 
-use crate::bench;
+use crate::bench::{self, Bench};
 use crate::bits::Bits;
 use crate::codes::{span, Code};
 use crate::families::Family;
@@ -53,12 +53,17 @@ impl Facts {
     }
 
     pub fn bench(&mut self) {
-        for bench in bench::all() {
+        self.shots("document 01's", &bench::document());
+        self.shots("with unread rows", &bench::unread());
+    }
+
+    fn shots(&mut self, which: &'static str, shots: &[Bench]) {
+        for bench in shots {
             let printed = lines(&bench.records, self.rule.0);
             for (at, line) in &bench.lines {
                 let text = printed.get(*at).map_or("nothing", |line| &line.text);
-                let holds = ensure(text == line, || format!("{text}, should be {line}"));
-                self.note("document 01", "bench shots", holds, &bench.records);
+                let named = || format!("{}: {text}, should be {line}", bench.name);
+                self.note("bench shots", which, ensure(text == line, named), &bench.records);
             }
         }
     }
@@ -80,6 +85,7 @@ impl Facts {
                 rule.judged(half, asked, &mut note);
                 rule.larger(half, asked, random, &mut note);
                 rule.fixing_off(half, asked, &mut note);
+                rule.left_out(half, asked, &mut note);
             }
             let lost = &decode.shot.sets[0];
             note("live on a set and on its complement", rule.complement(&code, lost));
@@ -153,6 +159,20 @@ impl Rule {
             let holds = ensure(without.counts.live == live, || format!("{live} are live alone"));
             note("live without fixing", holds);
         }
+    }
+
+    /// A code without the unread rows of the half's own kind gives the same.
+    fn left_out(self, half: &Half, asked: Asked, note: &mut Note) {
+        if half.unread.is_empty() {
+            return;
+        }
+        let (numbers, rows): (Vec<usize>, Vec<Row>) =
+            half.read().map(|(at, row)| (at, row.clone())).unzip();
+        let lit = Bits::of(rows.len(), (0..rows.len()).filter(|&at| half.lit.get(numbers[at])));
+        let unread = Bits::new(rows.len());
+        let without = Half { rows: &rows, lit: &lit, unread: &unread, ..*half };
+        let same = self.decode(half, asked) == self.decode(&without, asked);
+        note("unread rows left out", ensure(same, || "an unread row has a part".into()));
     }
 
     /// Live of the X half and live of the Z half on the complement make k.

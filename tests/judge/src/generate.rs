@@ -6,7 +6,7 @@ use crate::half::Asked;
 use crate::losses;
 use crate::random::Random;
 use crate::records;
-use crate::shot::size;
+use crate::shot::{size, KINDS};
 use crate::strays::{bad_sizes, ending, malformed, row, stray};
 use crate::stream::{Lent, Model, Record, X_ROW, Z_ROW};
 use crate::wrong::Wrong;
@@ -162,19 +162,29 @@ impl Maker<'_> {
     }
 
     fn disturb_shot(&mut self, code: &Code, made: &mut Vec<Record>) {
-        let kind = self.random.pick(&[2, 3, 4]);
+        let kind = self.random.pick(&KINDS);
         let past = size(code, kind) + self.random.pick(&[0, 1, 2, 300]);
         let budget = self.random.pick(&[1, 63, 64, 65, 128, 255]);
         let again = made[self.random.below(made.len())].clone();
-        let disturbing = match self.random.below(10) {
+        let disturbing = match self.random.below(12) {
             0..=2 => records::number(kind, past),
-            3..=5 => again,
-            6..=7 => records::decode(Asked { budget, limit: 9 }),
-            8 => row(self.random, X_ROW, code.n),
+            3..=4 => again,
+            5..=7 => self.otherwise(made).unwrap_or(again),
+            8..=9 => records::decode(Asked { budget, limit: 9 }),
+            10 => row(self.random, X_ROW, code.n),
             _ => bad_sizes(self.random),
         };
         let at = self.random.within(0, made.len());
         made.insert(at, disturbing);
+    }
+
+    /// The number of a lit or unread row again, lit or unread and of either kind.
+    fn otherwise(&mut self, made: &[Record]) -> Option<Record> {
+        let mut rows = made.iter().filter(|record| matches!(record[0], 3 | 4 | 6 | 7));
+        let count = rows.clone().count();
+        let row = rows.nth(self.random.below(count.max(1)))?;
+        let kind = self.random.pick(&[3, 4, 6, 7]);
+        Some([&[kind], &row[1..]].concat())
     }
 
     /// Records of all kinds for tiny codes.

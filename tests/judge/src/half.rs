@@ -10,7 +10,17 @@ pub struct Half<'a> {
     pub rows: &'a [Row],
     pub other: &'a [Row],
     pub lit: &'a Bits,
+    pub unread: &'a Bits,
+    /// The unread rows of the other kind, which serve all the same.
+    pub other_unread: &'a Bits,
     pub lost: &'a Bits,
+}
+
+impl Half<'_> {
+    /// The half's matrix: the rows that were read, with their numbers.
+    pub fn read(&self) -> impl Iterator<Item = (usize, &Row)> {
+        self.rows.iter().enumerate().filter(|(at, _)| !self.unread.get(*at))
+    }
 }
 
 #[derive(Clone, Copy, PartialEq, Eq, Debug)]

@@ -20,7 +20,7 @@ pub fn ensure(holds: bool, otherwise: impl FnOnce() -> String) -> Judged {
 pub struct Verdict {
     pub lost: usize,
     pub fixed: Vec<usize>,
-    /// Dimension of the errors that fire no row, modulo other-kind products.
+    /// Dimension of the errors that fire no row that was read, modulo other-kind products.
     pub classes: usize,
     /// An error that fits.
     pub error: Option<Bits>,
@@ -28,7 +28,7 @@ pub struct Verdict {
 
 pub fn verdict(half: &Half) -> Verdict {
     let lost = half.lost.ones();
-    let system = System::new(half.n, half.rows, half.lit, &lost);
+    let system = System::new(half, &lost);
     let fixed = fixed(half);
     Verdict {
         classes: lost.len() - system.rank() - fixed.len(),
@@ -50,7 +50,7 @@ pub fn fixed(half: &Half) -> Vec<usize> {
     span.leads().filter(|&at| at >= kept.len()).map(|at| order[at]).collect()
 }
 
-/// The rows on the lost qubits, the lit bits as one more column.
+/// The rows that were read on the lost qubits, the lit bits as one more column.
 struct System {
     n: usize,
     lost: Vec<usize>,
@@ -58,17 +58,16 @@ struct System {
 }
 
 impl System {
-    fn new(n: usize, rows: &[Row], lit: &Bits, lost: &[usize]) -> System {
+    fn new(half: &Half, lost: &[usize]) -> System {
         let last = lost.len();
-        let mut column = vec![None; n];
+        let mut column = vec![None; half.n];
         lost.iter().enumerate().for_each(|(at, &qubit)| column[qubit] = Some(at));
-        let vectors = rows.iter().enumerate().map(|(at, row)| {
+        let vectors = half.read().map(|(at, row)| {
             let places = row.iter().filter_map(|&qubit| column[qubit]);
-            Bits::of(last + 1, places.chain(lit.get(at).then_some(last)))
+            Bits::of(last + 1, places.chain(half.lit.get(at).then_some(last)))
         });
         let span = Span::of(last + 1, vectors);
-        let lost = lost.to_vec();
-        System { n, lost, span }
+        System { n: half.n, lost: lost.to_vec(), span }
     }
 
     fn rank(&self) -> usize {
@@ -86,10 +85,11 @@ impl System {
     }
 }
 
-/// Whether an error lies in the lost set and fires exactly the lit rows.
+/// Whether an error lies in the lost set and fires exactly the lit ones among the rows that were
+/// read.
 pub fn fits(half: &Half, error: &Bits) -> bool {
     let fires = |(at, row): (usize, &Row)| odd(row, error) == half.lit.get(at);
-    error.inside(half.lost) && half.rows.iter().enumerate().all(fires)
+    error.inside(half.lost) && half.read().all(fires)
 }
 
 impl Verdict {

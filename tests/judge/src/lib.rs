@@ -1,4 +1,4 @@
-//! Tests from outside: document 01 written a second time, plainly, and a judge
+//! Tests from outside: document 01, with unread rows, written a second time, plainly, and a judge
 //! that needs no turns.
 
 pub mod bench;

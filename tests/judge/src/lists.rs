@@ -50,12 +50,12 @@ impl Verdict {
 }
 
 /// As the live guesses take all values, the settled qubits take exactly the
-/// fillings that satisfy every closed row, each once.
+/// fillings that satisfy every closed row that was read, each once.
 fn fillings(half: &Half, report: &Report) -> Judged {
     let Report { word, counts, marks, forms, .. } = report;
     let is = |qubit: usize, wanted: &[u8]| wanted.contains(&marks[qubit]);
     let mut closed = Vec::new();
-    for (at, row) in half.rows.iter().enumerate() {
+    for (at, row) in half.read() {
         let open = row.iter().filter(|&&q| is(q, &[mark::OPEN])).count();
         ensure(open != 1 || *word != Word::Spent, || format!("spent, yet row {at} dangles"))?;
         if open == 0 {

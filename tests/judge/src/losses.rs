@@ -1,4 +1,4 @@
-//! Random and structured losses, readings, budgets and limits.
+//! Random and structured losses, unread rows, readings, budgets and limits.
 
 use crate::bits::Bits;
 use crate::codes::{odd, set, Code};
@@ -7,18 +7,28 @@ use crate::machine;
 use crate::random::Random;
 use crate::shot::Shot;
 
+/// Half of the shots may have unread rows.
 pub fn shot(random: &mut Random, code: &Code) -> Shot {
-    let lost = lost(random, code);
-    let lit_z = lit(random, code.n, &code.z, &lost);
-    let lit_x = lit(random, code.n, &code.x, &lost);
-    Shot { sets: [lost, lit_z, lit_x] }
+    let mut shot = Shot::empty(code);
+    shot.sets[0] = lost(random, code);
+    if random.percent(50) {
+        for (kind, rows) in [(6, &code.z), (7, &code.x)] {
+            *shot.set_mut(kind) = unread(random, rows, &shot.sets[0]);
+        }
+    }
+    if code.n >= 64 && random.percent(20) {
+        shot.sets[0] = brink(random, code, &shot);
+    }
+    for (kind, unread, rows) in [(3, 6, &code.z), (4, 7, &code.x)] {
+        let mut lit = lit(random, code.n, rows, &shot.sets[0]);
+        lit.remove(shot.set(unread));
+        *shot.set_mut(kind) = lit;
+    }
+    shot
 }
 
-pub fn lost(random: &mut Random, code: &Code) -> Bits {
+fn lost(random: &mut Random, code: &Code) -> Bits {
     let n = code.n;
-    if n >= 64 && random.percent(20) {
-        return brink(random, code);
-    }
     match random.below(10) {
         0 => random.pick(&[Bits::new, full])(n),
         1 => some(random, n, 8),
@@ -58,13 +68,28 @@ fn rows(random: &mut Random, code: &Code) -> Bits {
     lost
 }
 
+/// Few, many or all of the rows on one lost qubit, on lost qubits or on any.
+fn unread(random: &mut Random, rows: &[Row], lost: &Bits) -> Bits {
+    let places = lost.ones();
+    let one = (!places.is_empty()).then(|| random.pick(&places));
+    let from = random.below(4);
+    let may = |row: &Row| match from {
+        0 => row.iter().any(|&qubit| one == Some(qubit)),
+        1 => row.iter().any(|&qubit| lost.get(qubit)),
+        _ => true,
+    };
+    let chance = random.pick(&[2, 10, 30, 70, 100, 100]);
+    let unread = (0..rows.len()).filter(|&at| may(&rows[at]) && random.percent(chance));
+    Bits::of(rows.len(), unread)
+}
+
 /// A set on which 63 guesses just do or just do not suffice for one half.
-fn brink(random: &mut Random, code: &Code) -> Bits {
+fn brink(random: &mut Random, code: &Code, shot: &Shot) -> Bits {
     let order = random.order(code.n);
     let first = |count: usize| set(code.n, &order[..count]);
     let which = random.below(2);
     let spent = |count: usize| {
-        let mut shot = Shot::empty(code);
+        let mut shot = shot.clone();
         shot.sets[0] = first(count);
         let half = &shot.halves(code)[which];
         machine::decode(half, Asked::AMPLE).word == Word::Spent
@@ -78,7 +103,7 @@ fn brink(random: &mut Random, code: &Code) -> Bits {
 }
 
 /// Mostly the rows that an error on the lost set fires.
-pub fn lit(random: &mut Random, n: usize, rows: &[Row], lost: &Bits) -> Bits {
+fn lit(random: &mut Random, n: usize, rows: &[Row], lost: &Bits) -> Bits {
     let places = lost.ones().into_iter();
     let mut error = Bits::of(n, places.filter(|_| random.percent(50)));
     let case = random.below(12);

@@ -1,7 +1,7 @@
 //! A half, turn by turn: document 01's steps, taken one at a time.
 
 use crate::half::{mark, Asked, Counts, Half, Report, Word};
-use crate::wrong::Wrong;
+use crate::wrong::{Part, Wrong};
 use std::cmp::Reverse;
 
 pub fn decode(half: &Half, asked: Asked) -> Report {
@@ -20,6 +20,10 @@ struct Machine<'a> {
     marks: Vec<u8>,
     forms: Vec<u64>,
     live: usize,
+    /// The rows that can dangle, in the order in which they are tried.
+    peeling: Vec<usize>,
+    /// The rows that are taken up when they are closed, ascending.
+    closing: Vec<usize>,
     /// On how many rows each qubit is.
     degree: Vec<usize>,
 }
@@ -32,8 +36,13 @@ impl<'a> Machine<'a> {
         for &qubit in wrong.counted(half).into_iter().flatten() {
             degree[qubit] += 1;
         }
+        let mut peeling = wrong.rows(half, Part::Dangle);
+        if wrong == Wrong::PeelHighest {
+            peeling.reverse();
+        }
+        let closing = wrong.rows(half, Part::Close);
         let forms = vec![0; half.n];
-        Machine { half, wrong, marks, forms, live: 0, degree }
+        Machine { half, wrong, marks, forms, live: 0, peeling, closing, degree }
     }
 
     fn run(&mut self, asked: Asked) -> Word {
@@ -56,7 +65,7 @@ impl<'a> Machine<'a> {
         }
         let touched = |row: usize| self.half.rows[row].iter().any(|&q| self.half.lost.get(q));
         let seen = |row: usize| self.wrong != Wrong::UntouchedIgnored || touched(row);
-        let rows = 0..self.half.rows.len();
+        let rows = self.closing.iter().copied();
         rows.filter(|&row| self.open(row).next().is_none() && seen(row)).collect()
     }
 
@@ -66,7 +75,7 @@ impl<'a> Machine<'a> {
     }
 
     fn side(&self, row: usize) -> u64 {
-        let lit = u64::from(self.half.lit.get(row));
+        let lit = u64::from(self.wrong.lit(self.half, row));
         self.half.rows[row].iter().fold(lit, |sum, &qubit| sum ^ self.forms[qubit])
     }
 
@@ -101,11 +110,7 @@ impl<'a> Machine<'a> {
     }
 
     fn dangling(&self) -> Option<(usize, usize)> {
-        let mut rows: Vec<usize> = (0..self.half.rows.len()).collect();
-        if self.wrong == Wrong::PeelHighest {
-            rows.reverse();
-        }
-        rows.into_iter().find_map(|row| {
+        self.peeling.iter().find_map(|&row| {
             let mut open = self.open(row);
             let qubit = open.next()?;
             open.next().is_none().then_some((row, qubit))
@@ -158,7 +163,7 @@ impl<'a> Machine<'a> {
             }
         };
         let on = |row: &usize| self.half.rows[*row].contains(&settled);
-        let rows = (0..self.half.rows.len()).filter(on);
+        let rows = self.closing.iter().copied().filter(on);
         rows.filter(|&row| self.open(row).next().is_none()).collect()
     }
 

@@ -2,7 +2,7 @@
 
 use crate::codes::Code;
 use crate::half::{Asked, Row};
-use crate::shot::{Decode, Shot};
+use crate::shot::{Decode, Shot, KINDS};
 use crate::stream::{Record, X_ROW, Z_ROW};
 
 fn record(kind: u8, numbers: &[usize]) -> Record {
@@ -19,7 +19,7 @@ pub fn row(kind: u8, row: &[usize]) -> Record {
     record(kind + row.len() as u8, row)
 }
 
-/// A lost qubit (2), a lit Z row (3) or a lit X row (4).
+/// A lost qubit (2), a lit Z row (3) or X row (4), an unread Z row (6) or X row (7).
 pub fn number(kind: u8, number: usize) -> Record {
     record(kind, &[number])
 }
@@ -39,10 +39,10 @@ pub fn load(code: &Code) -> Vec<Record> {
 
 pub fn shot(shot: &Shot) -> Vec<Record> {
     let set = |kind: u8| {
-        let places = shot.sets[usize::from(kind - 2)].ones();
+        let places = shot.set(kind).ones();
         places.into_iter().map(move |place| number(kind, place))
     };
-    (2..=4).flat_map(set).collect()
+    KINDS.into_iter().flat_map(set).collect()
 }
 
 /// The records that make one decode from a fresh start.

@@ -21,7 +21,7 @@ pub fn stray(random: &mut Random, model: &Model) -> Record {
             records::decode(Asked { budget, limit: random.below(6) })
         }
         _ => {
-            let kind = random.pick(&[2, 2, 3, 4]);
+            let kind = random.pick(&[2, 2, 2, 3, 4, 6, 7]);
             records::number(kind, random.within(0, n.min(4)))
         }
     }
@@ -58,7 +58,7 @@ pub fn bad_sizes(random: &mut Random) -> Record {
 /// An unknown or cut-off record, which ends a program.
 pub fn ending(random: &mut Random, mut record: Record) -> Record {
     if random.percent(50) {
-        record[0] = random.pick(&[0, 6, 7, 31, 32, 49, 63, 64, 81, 96, 97, 128, 255]);
+        record[0] = random.pick(&[0, 8, 9, 31, 32, 49, 63, 64, 81, 96, 97, 128, 255]);
     } else {
         record.truncate(random.within(1, record.len() - 1));
     }

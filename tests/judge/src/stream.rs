@@ -1,9 +1,8 @@
 //! The record protocol: each record's answer and what it leaves.
 
-use crate::bits::Bits;
 use crate::codes::{Code, QUBITS, ROWS};
 use crate::half::{Asked, Row};
-use crate::shot::{size, Decode, Shot};
+use crate::shot::{size, Decode, Shot, KINDS};
 use crate::wrong::Wrong;
 use std::rc::Rc;
 
@@ -47,7 +46,7 @@ pub const Z_ROW: u8 = 64;
 pub fn body(kind: u8) -> Option<usize> {
     match kind {
         1 => Some(6),
-        2..=4 => Some(2),
+        2..=4 | 6 | 7 => Some(2),
         5 => Some(3),
         33..=48 => Some(2 * usize::from(kind - X_ROW)),
         65..=80 => Some(2 * usize::from(kind - Z_ROW)),
@@ -123,9 +122,9 @@ impl Model {
             }
             (5, _) if row_kind(kind) != 0 => self.bad_row(&numbers(bytes)),
             (6, _) if row_kind(kind) != 0 => !short && self.clash(kind, numbers(bytes)),
-            (7, 2..=5) => self.code().is_none(),
-            (8, 2..=4) => numbers(bytes)[0] >= self.shot(kind).0,
-            (9, 2..=4) => !short && self.shot(kind).1.get(numbers(bytes)[0]),
+            (7, 2..=7) => self.code().is_none(),
+            (8, _) if KINDS.contains(&kind) => !self.there(kind, numbers(bytes)[0]),
+            (9, _) if KINDS.contains(&kind) => !short && self.twice(kind, numbers(bytes)[0]),
             (10, 5) => bytes[0] > 63,
             (11, 5) => matches!(self.state, State::Ready { spoiled: true, .. }),
             (12, _) => short,
@@ -150,13 +149,18 @@ impl Model {
         self.wrong.clash(&full)
     }
 
-    /// The set that a kind of 2 to 4 adds to, and its size.
-    fn shot(&self, kind: u8) -> (usize, &Bits) {
+    /// Whether the code has the qubit or row that a kind names.
+    fn there(&self, kind: u8, number: usize) -> bool {
+        self.code().is_some_and(|code| number < size(code, self.wrong.crossed(kind)))
+    }
+
+    /// Whether it is lost, lit or unread already.
+    fn twice(&self, kind: u8, number: usize) -> bool {
         let State::Ready { code, shot, .. } = &self.state else {
             unreachable!("refused with 7");
         };
-        let kind = self.wrong.crossed(kind);
-        (size(code, kind), &shot.sets[usize::from(kind - 2)])
+        let mut barred = self.wrong.barred(self.wrong.crossed(kind)).iter();
+        barred.any(|&kind| number < size(code, kind) && shot.set(kind).get(number))
     }
 
     /// The last column of the table.
@@ -172,7 +176,12 @@ impl Model {
 
     fn end_shot(&mut self) {
         if let State::Ready { code, shot, spoiled } = &mut self.state {
-            *shot = Shot::empty(code);
+            let ended = std::mem::replace(shot, Shot::empty(code));
+            if self.wrong == Wrong::UnreadKept {
+                for kind in [6, 7] {
+                    *shot.set_mut(kind) = ended.set(kind).clone();
+                }
+            }
             *spoiled = false;
         }
     }
@@ -187,9 +196,9 @@ impl Model {
                 *state = State::Loading { code: Code::new(n), x, z };
                 self.complete()
             }
-            (2..=4, State::Ready { shot, spoiled, .. }) => {
-                if !(*spoiled && self.wrong == Wrong::SpoiledDeaf) {
-                    shot.sets[usize::from(crossed - 2)].insert(numbers(bytes)[0]);
+            (_, State::Ready { shot, spoiled, .. }) if KINDS.contains(&kind) => {
+                if !*spoiled || self.wrong.spoiled_takes(kind) {
+                    shot.set_mut(crossed).insert(numbers(bytes)[0]);
                 }
                 Answer::Taken
             }

@@ -3,6 +3,7 @@
 use crate::codes::Code;
 use crate::half::{Half, Row};
 use crate::judge;
+use crate::shot::alike;
 
 macro_rules! wrongs {
     ($($variant:ident $name:literal)*) => {
@@ -41,6 +42,13 @@ wrongs! {
     CertainIfFits "certain-if-fits"
     FailingUncounted "failing-turn-uncounted"
     LiveAfterNone "live-after-none"
+    // Rows that were not read.
+    UnreadDangles "unread-dangles"
+    UnreadCloses "unread-closes"
+    UnreadCounts "unread-counts"
+    UnreadZero "unread-as-zero"
+    UnreadLit "unread-as-lit"
+    UnreadFixesNothing "unread-fixes-nothing"
     // What a refusal leaves.
     ThreeKeeps "code-kept-after-3"
     FourKeeps "code-kept-after-4"
@@ -58,14 +66,31 @@ wrongs! {
     ElevenFirst "11-before-10"
     SixUnseen "never-6"
     NineUnseen "never-9"
+    LitAfterUnread "no-9-for-lit-after-unread"
+    UnreadAfterLit "no-9-for-unread-after-lit"
+    UnreadTwice "no-9-for-unread-twice"
+    NineAcross "9-across-kinds"
     ClashOfLast "6-looks-at-last-row"
     // The rest of the stream.
     ShotKept "shot-kept-after-decode"
+    UnreadKept "unread-kept-after-decode"
     SpoiledDeaf "spoiled-takes-nothing"
+    SpoiledUnread "spoiled-takes-no-unread"
     LitCrossed "lit-kinds-crossed"
+    UnreadCrossed "unread-kinds-crossed"
     HalvesCrossed "halves-crossed"
     CutOffSilent "cut-off-silent"
     UnknownGoesOn "unknown-goes-on"
+}
+
+/// What a row that was read does in a half's turns.
+#[derive(Clone, Copy, PartialEq, Eq)]
+pub enum Part {
+    Dangle,
+    /// It is taken up.
+    Close,
+    /// It counts for the guess.
+    Count,
 }
 
 impl Wrong {
@@ -106,12 +131,35 @@ impl Wrong {
         }
     }
 
-    /// The kind whose set a kind of 2 to 4 adds to.
+    /// The kind whose set a kind adds to.
     pub fn crossed(self, kind: u8) -> u8 {
         match (self, kind) {
             (Wrong::LitCrossed, 3) => 4,
             (Wrong::LitCrossed, 4) => 3,
+            (Wrong::UnreadCrossed, 6) => 7,
+            (Wrong::UnreadCrossed, 7) => 6,
             _ => kind,
+        }
+    }
+
+    /// The kinds whose numbers in the shot a kind may not name again.
+    pub fn barred(self, kind: u8) -> &'static [u8] {
+        match (self, kind) {
+            (Wrong::LitAfterUnread, 3) | (Wrong::UnreadTwice, 6) => &[3],
+            (Wrong::LitAfterUnread, 4) | (Wrong::UnreadTwice, 7) => &[4],
+            (Wrong::UnreadAfterLit, 6) => &[6],
+            (Wrong::UnreadAfterLit, 7) => &[7],
+            (Wrong::NineAcross, 3 | 4 | 6 | 7) => &[3, 4, 6, 7],
+            _ => alike(kind),
+        }
+    }
+
+    /// Whether a spoiled shot takes a kind.
+    pub fn spoiled_takes(self, kind: u8) -> bool {
+        match self {
+            Wrong::SpoiledDeaf => false,
+            Wrong::SpoiledUnread => !matches!(kind, 6 | 7),
+            _ => true,
         }
     }
 
@@ -127,7 +175,13 @@ impl Wrong {
     pub fn fixed(self, half: &Half) -> Vec<usize> {
         let erased = |row: &&Row| row.iter().all(|&qubit| half.lost.get(qubit));
         let rows = half.other.iter().filter(erased);
+        let read = |at: &usize| !half.other_unread.get(*at);
         match self {
+            Wrong::UnreadFixesNothing => {
+                let places = (0..half.other.len()).filter(read);
+                let other: Vec<Row> = places.map(|at| half.other[at].clone()).collect();
+                judge::fixed(&Half { other: &other, ..*half })
+            }
             Wrong::FixNothing => Vec::new(),
             Wrong::FixSingleRows => rows.map(|row| row[0]).collect(),
             Wrong::FixEachRow => rows.fold(Vec::new(), |mut fixed, row| {
@@ -147,12 +201,31 @@ impl Wrong {
         }
     }
 
+    /// The rows that do this: those that were read, ascending.
+    pub fn rows(self, half: &Half, part: Part) -> Vec<usize> {
+        let unread_too = match self {
+            Wrong::UnreadDangles => part == Part::Dangle,
+            Wrong::UnreadCloses => part == Part::Close,
+            Wrong::UnreadCounts => part == Part::Count,
+            Wrong::UnreadZero | Wrong::UnreadLit => true,
+            _ => false,
+        };
+        (0..half.rows.len()).filter(|&at| unread_too || !half.unread.get(at)).collect()
+    }
+
+    /// Whether a row's side has a lit bit.
+    pub fn lit(self, half: &Half, row: usize) -> bool {
+        half.lit.get(row) || (self == Wrong::UnreadLit && half.unread.get(row))
+    }
+
     /// The rows on which a guess is counted.
     pub fn counted<'a>(self, half: &Half<'a>) -> Vec<&'a Row> {
+        let all = half.rows;
+        let rows = self.rows(half, Part::Count).into_iter().map(|at| &all[at]);
         match self {
             Wrong::GuessLowest => Vec::new(),
-            Wrong::GuessByBoth => half.rows.iter().chain(half.other).collect(),
-            _ => half.rows.iter().collect(),
+            Wrong::GuessByBoth => rows.chain(half.other).collect(),
+            _ => rows.collect(),
         }
     }
 }

@@ -28,16 +28,30 @@ fn wrong_rules_are_caught() {
     assert!(success && printed.ends_with(" passed, 0 failed\n"), "{printed}");
 }
 
+/// Whether elimination alone sees that a rule is wrong.
+fn eliminated(name: &str, shots: &str) {
+    let (success, printed) = judge(&["self", "--seed", "1", "--shots", shots, "--wrong", name]);
+    let judged = ["words, counts and flips: ", "marks, forms and corrections: "];
+    assert!(!success && judged.iter().any(|fact| printed.contains(fact)), "{name}");
+}
+
 #[test]
 fn elimination_alone_catches_broken_demands() {
     let broken =
         ["fix-each-row", "untouched-ignored", "bit-kept", "budget-first", "certain-if-fits"];
-    for name in broken {
-        let (success, printed) =
-            judge(&["self", "--seed", "1", "--shots", "2000", "--wrong", name]);
-        let judged = ["words, counts and flips: ", "marks, forms and corrections: "];
-        assert!(!success && judged.iter().any(|fact| printed.contains(fact)), "{name}");
-    }
+    broken.iter().for_each(|name| eliminated(name, "2000"));
+}
+
+#[test]
+fn elimination_alone_catches_unread_rows() {
+    let broken = [
+        "unread-dangles",
+        "unread-closes",
+        "unread-as-zero",
+        "unread-as-lit",
+        "unread-fixes-nothing",
+    ];
+    broken.iter().for_each(|name| eliminated(name, "300"));
 }
 
 #[test]

@@ -5,6 +5,7 @@ use judge::half::Asked;
 use judge::known::four;
 use judge::random::Random;
 use judge::records::{decode, load, number, row, sizes};
+use judge::shot::KINDS;
 use judge::strays::shortened;
 use judge::stream::{Answer, Lent, Model, Record, X_ROW, Z_ROW};
 use judge::wrong::Wrong;
@@ -46,8 +47,17 @@ fn ask(budget: usize) -> Record {
 
 #[test]
 fn unknown_and_length_spoil() {
-    for bad in [vec![], vec![6], vec![32], vec![2, 0], vec![1, 4, 0], vec![5, 1, 2, 3, 4]] {
-        let first = if bad.first().is_some_and(|&kind| kind > 5) { 1 } else { 2 };
+    let unknown = [vec![0], vec![8], vec![32], vec![255, 0, 0]].map(|bad| (1, bad));
+    let length = [
+        vec![],
+        vec![2, 0],
+        vec![1, 4, 0],
+        vec![5, 1, 2, 3, 4],
+        vec![6],
+        vec![6, 0, 0, 0],
+        vec![7, 0],
+    ];
+    for (first, bad) in unknown.into_iter().chain(length.map(|bad| (2, bad))) {
         assert_eq!(on_four(&[ample(bad), ample(ask(1)), ample(ask(1))]), [first, 11, 0]);
     }
 }
@@ -57,16 +67,18 @@ fn loading_goes_on() {
     let x = row(X_ROW, &[0, 1]);
     let calls = [
         ample(sizes(2, 1, 1)),
-        ample(vec![7]),
+        ample(vec![8]),
         ample(vec![]),
         ample(lost(0)),
+        ample(number(6, 0)),
+        ample(number(7, 9)),
         ample(ask(64)),
         short(x.clone()),
         ample(x),
         ample(row(Z_ROW, &[0, 1])),
         ample(ask(0)),
     ];
-    assert_eq!(numbers(&calls), [0, 1, 2, 7, 7, 12, 0, 0, 0]);
+    assert_eq!(numbers(&calls), [0, 1, 2, 7, 7, 7, 7, 12, 0, 0, 0]);
 }
 
 #[test]
@@ -92,12 +104,54 @@ fn clash_is_not_tried_on_short_lists() {
 
 #[test]
 fn range_and_twice_spoil() {
-    for (kind, end) in [(2, 4), (3, 1), (4, 1)] {
+    for (kind, end) in [(2, 4), (3, 1), (4, 1), (6, 1), (7, 1)] {
         let past = [short(number(kind, end)), ample(ask(1)), ample(ask(1))];
         assert_eq!(on_four(&past), [8, 11, 0]);
         let zero = || ample(number(kind, 0));
         let again = [zero(), zero(), zero(), ample(ask(64)), zero(), ample(ask(1))];
         assert_eq!(on_four(&again), [0, 9, 9, 10, 0, 0]);
+    }
+}
+
+#[test]
+fn a_row_is_lit_or_unread_once() {
+    for first in [3, 4, 6, 7] {
+        for second in [3, 4, 6, 7] {
+            let same_row = matches!((first, second), (3 | 6, 3 | 6) | (4 | 7, 4 | 7));
+            let calls = [
+                ample(number(first, 0)),
+                ample(number(second, 0)),
+                ample(ask(1)),
+                ample(number(second, 0)),
+                ample(ask(1)),
+            ];
+            let expected = if same_row { [0, 9, 11, 0, 0] } else { [0, 0, 0, 0, 0] };
+            assert_eq!(on_four(&calls), expected, "{first} before {second}");
+        }
+    }
+}
+
+#[test]
+fn spoiled_shots_take_unread_rows() {
+    for kind in [6, 7] {
+        let row = || ample(number(kind, 0));
+        let calls = [ample(lost(4)), row(), row(), ample(ask(1)), row(), ample(ask(1))];
+        assert_eq!(on_four(&calls), [8, 0, 9, 11, 0, 0]);
+    }
+}
+
+#[test]
+fn twice_is_not_tried_on_short_lists() {
+    for (kind, other) in [(6, 3), (7, 4)] {
+        let (row, again) = (number(kind, 0), number(other, 0));
+        let calls = [
+            short(row.clone()),
+            ample(row.clone()),
+            short(row),
+            short(again.clone()),
+            ample(again),
+        ];
+        assert_eq!(on_four(&calls), [12, 0, 12, 12, 9]);
     }
 }
 
@@ -123,9 +177,17 @@ fn wild_streams_meet_every_refusal() {
     let mut random = Random::new(1);
     let mix = Mix { trouble: 30, wild: true, family: None };
     let stream = records(&mut random, 500, mix);
-    let met = numbers(&shortened(&mut random, stream, 3));
+    let calls = shortened(&mut random, stream, 3);
+    let kinds = calls.iter().map(|(record, _)| record.first().copied());
+    let met: Vec<_> = numbers(&calls).into_iter().zip(kinds).collect();
     for number in 0..=12 {
-        let times = met.iter().filter(|&&other| other == number).count();
+        let times = met.iter().filter(|(other, _)| *other == number).count();
         assert!(times > 10, "{number} met {times} times");
+    }
+    for kind in KINDS {
+        for number in [0, 2, 7, 8, 9, 12] {
+            let times = met.iter().filter(|call| **call == (number, Some(kind))).count();
+            assert!(times > 3, "{number} met {times} times at kind {kind}");
+        }
     }
 }

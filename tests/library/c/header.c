@@ -45,6 +45,10 @@ static int answer(const char *name, const size_t *numbers, size_t count) {
         print_record(rack_lit_z(numbers[0]));
     else if (strcmp(name, "lit_x") == 0)
         print_record(rack_lit_x(numbers[0]));
+    else if (strcmp(name, "unread_z") == 0)
+        print_record(rack_unread_z(numbers[0]));
+    else if (strcmp(name, "unread_x") == 0)
+        print_record(rack_unread_x(numbers[0]));
     else if (strcmp(name, "decode") == 0)
         print_record(rack_decode(numbers[0], numbers[1]));
     else if (strcmp(name, "word") == 0)

@@ -5,12 +5,15 @@
 
 /* The bytes of a record with this kind; of an unknown kind no body is read. */
 static size_t record_length(uint8_t kind) {
-    if (kind == RACK_KIND_SIZES)
-        return 7;
-    if (kind == RACK_KIND_LOST || kind == RACK_KIND_LIT_Z || kind == RACK_KIND_LIT_X)
-        return 3;
-    if (kind == RACK_KIND_DECODE)
-        return 4;
+    switch (kind) {
+    case RACK_KIND_SIZES: return 7;
+    case RACK_KIND_DECODE: return 4;
+    case RACK_KIND_LOST:
+    case RACK_KIND_LIT_Z:
+    case RACK_KIND_LIT_X:
+    case RACK_KIND_UNREAD_Z:
+    case RACK_KIND_UNREAD_X: return 3;
+    }
     if (RACK_KIND_X_ROW < kind && kind <= RACK_KIND_X_ROW + RACK_MOST_WEIGHT)
         return 1 + 2 * (size_t)(kind - RACK_KIND_X_ROW);
     if (RACK_KIND_Z_ROW < kind && kind <= RACK_KIND_Z_ROW + RACK_MOST_WEIGHT)

@@ -1,12 +1,12 @@
-/* Document 01's printed example on lists from the heap that are exactly as long as they have to be: with nothing in them, with garbage,
- * and one of them too short. */
+/* Document 01's printed example, and shots with an unread row, on lists from the heap that are exactly as long as they have to be: with nothing
+ * in them, with garbage, and one of them too short. */
 #include "rack.h"
 
 #include <stdio.h>
 #include <stdlib.h>
 
 enum { FLAT, ENDS, SHOT, WORK, X_MARKS, X_FORMS, X_CORRECTION, Z_MARKS, Z_FORMS, Z_CORRECTION, LISTS };
-enum { N = 4, SHOT_BEGINS = 3, DECODE = 6, RECORDS = 9 };
+enum { N = 4, RECORDS = 15, DECODES = 2 };
 
 static const char *const names[LISTS] = {
     "flat", "ends", "shot", "work", "x_marks", "x_forms", "x_correction", "z_marks", "z_forms", "z_correction"};
@@ -28,6 +28,30 @@ static const struct {
     {4, {5, 1, 100, 0}, RACK_ANSWER_DECODED, 0},
     {3, {2, 4, 0}, RACK_ANSWER_REFUSED, RACK_REFUSAL_RANGE},
     {4, {5, 1, 100, 0}, RACK_ANSWER_REFUSED, RACK_REFUSAL_SPOILED},
+    {3, {2, 2, 0}, RACK_ANSWER_TAKEN, 0},
+    {3, {6, 0, 0}, RACK_ANSWER_TAKEN, 0},
+    {4, {5, 1, 100, 0}, RACK_ANSWER_DECODED, 0},
+    {3, {7, 0, 0}, RACK_ANSWER_TAKEN, 0},
+    {3, {4, 0, 0}, RACK_ANSWER_REFUSED, RACK_REFUSAL_TWICE},
+    {4, {5, 1, 100, 0}, RACK_ANSWER_REFUSED, RACK_REFUSAL_SPOILED},
+};
+
+/* What a decode reports of the X half and the Z half, and where its shot begins. The first has the Z row lit, the second has it unread. */
+static const struct decode {
+    int record, begins;
+    struct rack_half halves[2];
+    uint8_t marks[2][N];
+    uint64_t forms[2][N];
+    uint8_t flips[2][N];
+} decodes[DECODES] = {
+    {6, 3, {{RACK_WORD_UNSURE, 0, 2, 1, 1}, {RACK_WORD_UNSURE, 0, 2, 1, 1}},
+     {{RACK_MARK_GUESSED, RACK_MARK_PEELED, RACK_MARK_NOT_LOST, RACK_MARK_NOT_LOST},
+      {RACK_MARK_GUESSED, RACK_MARK_PEELED, RACK_MARK_NOT_LOST, RACK_MARK_NOT_LOST}},
+     {{2, 3, 0, 0}, {2, 2, 0, 0}}, {{0, 1, 0, 0}, {0, 0, 0, 0}}},
+    {11, 9, {{RACK_WORD_UNSURE, 0, 1, 1, 1}, {RACK_WORD_CERTAIN, 0, 1, 0, 0}},
+     {{RACK_MARK_NOT_LOST, RACK_MARK_NOT_LOST, RACK_MARK_GUESSED, RACK_MARK_NOT_LOST},
+      {RACK_MARK_NOT_LOST, RACK_MARK_NOT_LOST, RACK_MARK_PEELED, RACK_MARK_NOT_LOST}},
+     {{0, 0, 2, 0}, {0, 0, 0, 0}}, {{0, 0, 0, 0}, {0, 0, 0, 0}}},
 };
 
 struct lent {
@@ -116,18 +140,22 @@ static struct rack_reply step(struct lent *lent, int record) {
     return reply;
 }
 
-/* Both halves unsure 0 2 1 1; only the X half's row is lit. */
-static void expect_decoded(const struct lent *lent, const struct rack_reply *reply) {
-    static const struct rack_half half = {RACK_WORD_UNSURE, 0, 2, 1, 1};
-    static const uint8_t marks[N] = {RACK_MARK_GUESSED, RACK_MARK_PEELED, RACK_MARK_NOT_LOST, RACK_MARK_NOT_LOST};
-    static const uint64_t x_forms[N] = {2, 3, 0, 0}, z_forms[N] = {2, 2, 0, 0};
-    static const uint8_t x_flips[N] = {0, 1, 0, 0}, z_flips[N] = {0, 0, 0, 0};
-    const void *lists[] = {marks, x_forms, x_flips, marks, z_forms, z_flips};
+/* The decode that a record asks for, if it is not refused. */
+static const struct decode *decode_at(int record) {
+    for (int at = 0; at < DECODES; at++)
+        if (decodes[at].record == record)
+            return &decodes[at];
+    return NULL;
+}
 
-    expect(memcmp(&reply->x, &half, sizeof half) == 0, DECODE, "the X half");
-    expect(memcmp(&reply->z, &half, sizeof half) == 0, DECODE, "the Z half");
+static void expect_decoded(const struct lent *lent, const struct rack_reply *reply, const struct decode *decode) {
+    const void *lists[] = {decode->marks[0], decode->forms[0], decode->flips[0], decode->marks[1], decode->forms[1], decode->flips[1]};
+    int record = decode->record;
+
+    expect(memcmp(&reply->x, &decode->halves[0], sizeof reply->x) == 0, record, "the X half");
+    expect(memcmp(&reply->z, &decode->halves[1], sizeof reply->z) == 0, record, "the Z half");
     for (int list = X_MARKS; list < LISTS; list++)
-        expect(memcmp(lent->list[list], lists[list - X_MARKS], N * widths[list]) == 0, DECODE, names[list]);
+        expect(memcmp(lent->list[list], lists[list - X_MARKS], N * widths[list]) == 0, record, names[list]);
 }
 
 /* The records from `first` to before `last`. */
@@ -137,14 +165,15 @@ static void run(struct lent *lent, int first, int last) {
 
         expect(reply.answer == records[record].answer, record, "the answer");
         expect(reply.refusal == records[record].refusal, record, "the refusal");
-        if (reply.answer == RACK_ANSWER_DECODED)
-            expect_decoded(lent, &reply);
+        if (decode_at(record) != NULL)
+            expect_decoded(lent, &reply, decode_at(record));
     }
 }
 
 /* One record with a short list; then the stream goes on with long ones. After a refused decode the next shot is empty. */
 static void one_short(int list, size_t length, int record) {
-    bool counts = list < X_MARKS || record == DECODE;
+    const struct decode *decode = decode_at(record);
+    bool counts = list < X_MARKS || decode != NULL;
     struct lent lent = start(), cut;
     struct rack_reply reply;
 
@@ -156,7 +185,7 @@ static void one_short(int list, size_t length, int record) {
     if (counts) {
         expect(same(&cut, &lent), record, "as it was");
         lent.state = cut.state;
-        run(&lent, record == DECODE ? SHOT_BEGINS : record, RECORDS);
+        run(&lent, decode != NULL ? decode->begins : record, RECORDS);
     }
     end(&cut);
     end(&lent);
@@ -177,7 +206,9 @@ int main(void) {
     }
     end_case("garbage", " in the lists");
     for (int list = 0; list < LISTS; list++) {
-        for (int record = 0; record <= DECODE; record++) {
+        for (int record = 0; record < RECORDS; record++) {
+            if (records[record].answer == RACK_ANSWER_REFUSED)
+                continue;
             one_short(list, least[list] - 1, record);
             one_short(list, 0, record);
         }

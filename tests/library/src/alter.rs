@@ -21,7 +21,7 @@ pub fn list(random: &mut Random, list: usize, bytes: &mut [u8]) {
         }),
         2 => part.fill(random.pick(&[0, u8::MAX])),
         _ if list < 2 => plausible(random, list, part),
-        _ => part.fill_with(|| random.pick(&[0, 1, 1, 2])),
+        _ => part.fill_with(|| random.pick(&[0, 1, 1, 2, 2, 3])),
     }
 }
 

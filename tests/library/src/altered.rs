@@ -11,6 +11,7 @@ use judge::half::Asked;
 use judge::judge::ensure;
 use judge::random::Random;
 use judge::records as made;
+use judge::shot::KINDS;
 use judge::stream::{Record, X_ROW, Z_ROW};
 use rack::raw::{answer, phase};
 
@@ -62,7 +63,7 @@ fn run(session: &mut Session, random: &mut Random) -> Result<usize, String> {
 
 /// A record of a known kind with any numbers, or any bytes.
 fn any_record(random: &mut Random) -> Record {
-    let kind = random.pick(&[2, 3, 4]);
+    let kind = random.pick(&KINDS);
     let row = random.pick(&[X_ROW, Z_ROW]);
     match random.below(20) {
         0 => made::sizes(number(random, QUBITS), number(random, ROWS), number(random, ROWS)),

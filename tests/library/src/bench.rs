@@ -1,4 +1,4 @@
-//! Document 01's bench shots and its printed example.
+//! Document 01's bench shots and its printed example, and shots with unread rows.
 
 use crate::caller::Caller;
 use crate::lengths::Lengths;
@@ -16,7 +16,7 @@ pub fn bench(seed: u64, _shots: usize) -> Checked {
     Ok(session.caller.tally.to_string())
 }
 
-/// The lines that document 01 has for a shot.
+/// The lines that a shot must have.
 fn shot(session: &mut Session, bench: &Bench) -> Judged {
     watch::case();
     session.restart();

@@ -92,7 +92,7 @@ fn any(random: &mut Random) -> Asking {
     let number = |number: usize| number.min(65_535);
     let row: Vec<u16> = (0..random.below(40)).map(|_| any_number(random) as u16).collect();
     let qubits: Row = row.iter().map(|&qubit| qubit.into()).collect();
-    match random.below(7) {
+    match random.below(9) {
         0 => asked("sizes", &[a, b, c], made::sizes(number(a), number(b), number(c)), {
             rack::Record::sizes(a, b, c)
         }),
@@ -101,6 +101,8 @@ fn any(random: &mut Random) -> Asking {
         3 => asked("lost", &[a], made::number(2, number(a)), rack::Record::lost(a)),
         4 => asked("lit_z", &[a], made::number(3, number(a)), rack::Record::lit_z(a)),
         5 => asked("lit_x", &[a], made::number(4, number(a)), rack::Record::lit_x(a)),
+        6 => asked("unread_z", &[a], made::number(6, number(a)), rack::Record::unread_z(a)),
+        7 => asked("unread_x", &[a], made::number(7, number(a)), rack::Record::unread_x(a)),
         _ => {
             let expected = Asked { budget: a.min(255), limit: number(b) };
             asked("decode", &[a, b], made::decode(expected), rack::Record::decode(a, b))

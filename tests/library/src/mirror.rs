@@ -12,8 +12,10 @@ use rack::raw::{answer, phase, Reply, State};
 const FLAT: usize = 0;
 const ENDS: usize = 1;
 const SHOT: usize = 2;
-/// Where `shot` has the rows' elements.
+/// Where `shot` has the rows' elements, and what these are; 0 of a row that was read and is zero.
 const ROWS: usize = 1024;
+const LIT: u8 = 1;
+const UNREAD: u8 = 2;
 
 /// A decode that is carried out, and the reports of its halves.
 pub type Decoded = (Decode, [Report; 2]);
@@ -87,11 +89,11 @@ impl Mirror {
                 self.stale = true;
             }
             2 => self.begun()[usize::from(number(1))] = 1,
-            3 => {
-                let place = self.code.x + number(1);
-                self.begun()[ROWS + usize::from(place)] = 1;
+            kind @ (3 | 4 | 6 | 7) => {
+                let first = if matches!(kind, 3 | 6) { self.code.x } else { 0 };
+                let place = ROWS + usize::from(first + number(1));
+                self.begun()[place] = if matches!(kind, 3 | 4) { LIT } else { UNREAD };
             }
-            4 => self.begun()[ROWS + usize::from(number(1))] = 1,
             5 => {
                 self.begun();
                 self.stale = true;

@@ -140,7 +140,7 @@ fn judge(header: &Numbers) -> Judged {
     let Asked { budget, limit } = Asked::AMPLE;
     let most = [QUBITS, ROWS, WEIGHT, budget, limit];
     let marks = [judged::NOT_LOST, judged::FIXED, judged::PEELED, judged::GUESSED, judged::OPEN];
-    let kinds = [1, 2, 3, 4, 5, X_ROW, Z_ROW];
+    let kinds = [1, 2, 3, 4, 5, 6, 7, X_ROW, Z_ROW];
     let lists = [16_384, 1_024, 2_048, 8_192, QUBITS, QUBITS, QUBITS];
     for (prefix, known) in [
         ("MOST_", most.to_vec()),

@@ -80,21 +80,28 @@ fn odd_rows(rack: &mut Rack) -> Judged {
     ensure(rows == [true, true], || "loading did not go on".into())
 }
 
-/// Lit Z rows are about the X half, lit X rows about the Z half: document 01's P10, both ways.
+/// Z rows are about the X half, X rows about the Z half: document 01's P10 with all rows of a kind
+/// lit, and unread, which leaves too much to guess.
 fn halves(rack: &mut Rack) -> Result<Judged, Error> {
     let code = seven();
     let row = |row: &Vec<usize>| -> Vec<u16> { row.iter().map(|&qubit| qubit as u16).collect() };
     rack.sizes(code.n, code.x.len(), code.z.len())?;
     code.x.iter().try_for_each(|x| rack.x_row(&row(x)).map(drop))?;
     code.z.iter().try_for_each(|z| rack.z_row(&row(z)).map(drop))?;
-    let mut shot = |light: fn(&mut Rack, usize) -> Result<Answer<'_>, Error>| {
+    let mut shot = |name: fn(&mut Rack, usize) -> Result<Answer<'_>, Error>| {
         [0, 2, 4, 6].into_iter().try_for_each(|qubit| rack.lost(qubit).map(drop))?;
-        (0..3).try_for_each(|row| light(rack, row).map(drop))?;
+        (0..3).try_for_each(|row| name(rack, row).map(drop))?;
         let report = rack.decode(1, 100)?;
         Ok([report.x.flips(), report.z.flips()])
     };
-    let (lit, unlit) = (Some(vec![6]), Some(vec![]));
-    let flips = [shot(Rack::lit_z)?, shot(Rack::lit_x)?];
-    let expected = [[lit.clone(), unlit.clone()], [unlit, lit]];
+    let flips = [Rack::lit_z, Rack::lit_x, Rack::unread_z, Rack::unread_x].map(&mut shot);
+    let flips = flips.into_iter().collect::<Result<Vec<_>, Error>>()?;
+    let (lit, zero, unread) = (Some(vec![6]), Some(vec![]), None);
+    let expected = [
+        [lit.clone(), zero.clone()],
+        [zero.clone(), lit],
+        [unread.clone(), zero.clone()],
+        [zero, unread],
+    ];
     Ok(ensure(flips == expected, || format!("{flips:?} should be {expected:?}")))
 }

@@ -3,7 +3,7 @@
 use crate::lengths::{Lengths, NAMES, SIX};
 use crate::session::Session;
 use crate::{watch, Checked};
-use judge::codes::Code;
+use judge::codes::{set, Code};
 use judge::families::Family;
 use judge::generate::{self, Mix};
 use judge::judge::{ensure, Judged};
@@ -11,6 +11,7 @@ use judge::known::{four, seven};
 use judge::losses;
 use judge::random::Random;
 use judge::records;
+use judge::shot::{alike, size, KINDS};
 use judge::stream::{Record, X_ROW, Z_ROW};
 use rack::raw::refusal::SHORT;
 
@@ -61,32 +62,42 @@ fn small(random: &mut Random) -> Code {
 }
 
 fn each_short(session: &mut Session, random: &mut Random, code: &Code) -> Judged {
-    let mut shot = losses::shot(random, code);
-    shot.sets.iter_mut().for_each(|set| set.insert(0));
-    let asked = losses::asked(random, shot.sets[0].count());
-    let shot = [records::shot(&shot), vec![records::decode(asked)]].concat();
-    let records = [records::load(code), shot.clone()].concat();
-    for at in places(&records) {
-        for list in 0..NAMES.len() {
-            let least = Lengths::least(code.n).0[list];
-            for length in [least - 1, 0, random.below(least)] {
-                watch::case();
-                let lengths = Lengths::least(code.n).with(list, length);
-                short_at(session, &records, at, list, &lengths)?;
-                session.calls(&shot, Lengths::above)?;
+    for kinds in [&[1, X_ROW, Z_ROW, 2, 3, 4, 5][..], &[6, 7]] {
+        let shot = shot(random, code, kinds);
+        let records = [records::load(code), shot.clone()].concat();
+        for at in places(&records, kinds) {
+            for list in 0..NAMES.len() {
+                let least = Lengths::least(code.n).0[list];
+                for length in [least - 1, 0, random.below(least)] {
+                    watch::case();
+                    let lengths = Lengths::least(code.n).with(list, length);
+                    short_at(session, &records, at, list, &lengths)?;
+                    session.calls(&shot, Lengths::above)?;
+                }
             }
         }
     }
     Ok(())
 }
 
-/// The first record of each kind, and the last row.
-fn places(records: &[Record]) -> Vec<usize> {
+/// A decode with number 0 of each of these kinds in the shot.
+fn shot(random: &mut Random, code: &Code, kinds: &[u8]) -> Vec<Record> {
+    let mut shot = losses::shot(random, code);
+    for kind in KINDS.into_iter().filter(|kind| kinds.contains(kind)) {
+        let zero = set(size(code, kind), &[0]);
+        alike(kind).iter().for_each(|&other| shot.set_mut(other).remove(&zero));
+        shot.set_mut(kind).insert(0);
+    }
+    let asked = losses::asked(random, shot.set(2).count());
+    [records::shot(&shot), vec![records::decode(asked)]].concat()
+}
+
+/// The first record of each of these kinds, and the last row.
+fn places(records: &[Record], kinds: &[u8]) -> Vec<usize> {
     let is = |kind: u8| move |record: &Record| record[0] == kind || record[0] & 96 == kind;
-    let kinds = [1, X_ROW, Z_ROW, 2, 3, 4, 5];
-    let first = kinds.map(|kind| records.iter().position(is(kind)).expect("every kind"));
+    let first = kinds.iter().map(|&kind| records.iter().position(is(kind)).expect("every kind"));
     let last = records.iter().rposition(is(Z_ROW)).expect("a Z row");
-    first.into_iter().chain([last]).collect()
+    first.chain([last]).collect()
 }
 
 /// A stream whose record `at` meets a short list, and again all lists long enough.

@@ -83,7 +83,8 @@ fn size_limits(setup: &Setup) -> Checked {
     for limit in limits {
         let mut command = setup.command();
         size_limit(&mut command, limit);
-        to_file(setup, &setup.large, command, limit).map_err(|why| format!("limit {limit}: {why}"))?;
+        to_file(setup, &setup.large, command, limit)
+            .map_err(|why| format!("limit {limit}: {why}"))?;
     }
     Ok(())
 }
@@ -121,7 +122,10 @@ fn closes_after(setup: &Setup, take: usize) -> Checked {
 }
 
 /// Reads to the end, little at a time and with pauses.
-fn slowly(mut from: impl Read + Send + 'static, pause: Duration) -> JoinHandle<Result<Vec<u8>, String>> {
+fn slowly(
+    mut from: impl Read + Send + 'static,
+    pause: Duration,
+) -> JoinHandle<Result<Vec<u8>, String>> {
     spawn(move || {
         let mut random = Random::new(3);
         let mut output = Vec::new();
@@ -177,7 +181,11 @@ fn fails_once(setup: &Setup) -> Checked {
     const EIO: i32 = 5;
     const ENOSPC: i32 = 28;
     let truth = &setup.large.truth;
-    for (at, error) in truth.places(&mut Random::new(4)).into_iter().zip([ANSWERS_0, EIO, ENOSPC].into_iter().cycle()) {
+    for (at, error) in truth
+        .places(&mut Random::new(4))
+        .into_iter()
+        .zip([ANSWERS_0, EIO, ENOSPC].into_iter().cycle())
+    {
         let command = shimmed(setup, &format!("{at} {error}"));
         let named = |why| format!("error {error} after {at} bytes: {why}");
         to_file(setup, &setup.large, command, at).map_err(named)?;

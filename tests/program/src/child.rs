@@ -80,7 +80,8 @@ pub fn small_pipe() -> io::Result<(File, OwnedFd)> {
 /// A pipe, the end that is read and the end that is written; a read where there is nothing does not wait.
 pub fn no_wait_pipe() -> io::Result<(OwnedFd, File)> {
     let mut ends = [0; 2];
-    let made = unsafe { pipe2(&mut ends, O_CLOEXEC) == 0 && fcntl(ends[0], F_SETFL, O_NONBLOCK) == 0 };
+    let made =
+        unsafe { pipe2(&mut ends, O_CLOEXEC) == 0 && fcntl(ends[0], F_SETFL, O_NONBLOCK) == 0 };
     if !made {
         return Err(io::Error::last_os_error());
     }

@@ -28,7 +28,11 @@ fn main() -> ExitCode {
         }
     }
     println!("{} passed, {} failed", tally[0], tally[1]);
-    if tally[1] == 0 { ExitCode::SUCCESS } else { ExitCode::FAILURE }
+    if tally[1] == 0 {
+        ExitCode::SUCCESS
+    } else {
+        ExitCode::FAILURE
+    }
 }
 
 /// Every case, or those whose name begins as said.

@@ -2,8 +2,8 @@
 //!
 //! First a code without rows and shots on it, without a loss at first, whose answers are many times as long as
 //! their records. Then a code whose rows have one qubit each, the Z rows the first qubits and the X rows the
-//! others: every lost qubit that is lit is flipped, so that lines are long. Some records are refused, and the
-//! last one is cut off.
+//! others: every lost qubit that is lit is flipped, so that lines are long, and one whose row is not read is a
+//! guess. Some records are refused, and the last one is cut off.
 
 use crate::random::Random;
 
@@ -21,6 +21,8 @@ const LARGE: usize = 2 * ROWS;
 const LOST: u8 = 2;
 const LIT_Z: u8 = 3;
 const LIT_X: u8 = 4;
+const UNREAD_Z: u8 = 6;
+const UNREAD_X: u8 = 7;
 
 fn record(kind: u8, numbers: &[usize], lines: &[&str]) -> Record {
     let low = |number: &usize| (*number as u16).to_le_bytes();
@@ -38,7 +40,9 @@ fn decode(budget: u8, lines: &[&str]) -> Record {
 pub fn stream(seed: u64, empty: usize, few: usize, many: usize) -> Vec<Record> {
     let mut random = Random::new(seed);
     let mut records = vec![record(1, &[SMALL, 0, 0], &["code 64 0 0\n"])];
-    records.extend((0..empty).map(|_| decode(63, &["X certain 0 0 0 0 flip\n", "Z certain 0 0 0 0 flip\n"])));
+    records.extend(
+        (0..empty).map(|_| decode(63, &["X certain 0 0 0 0 flip\n", "Z certain 0 0 0 0 flip\n"])),
+    );
     for _ in 0..few {
         shot(&mut records, &mut random, SMALL, 0);
     }
@@ -59,24 +63,35 @@ fn load(records: &mut Vec<Record>) {
     records.last_mut().expect("rows").lines.push("code 512 256 256\n".into());
 }
 
-/// Lost qubits, some of them lit where there are rows, and the decode; sometimes one that is refused.
+/// Lost qubits, where there are rows most of them lit and some unread, and the decode; sometimes one that is refused.
 fn shot(records: &mut Vec<Record>, random: &mut Random, n: usize, rows: usize) {
     let chance = [3, 30, 97][random.below(3)];
+    let mut named = None;
     for qubit in (0..n).filter(|_| random.percent(chance)).collect::<Vec<_>>() {
         records.push(record(LOST, &[qubit], &[]));
-        if rows > 0 && random.percent(90) {
-            let kind = if qubit < rows { LIT_Z } else { LIT_X };
-            records.push(record(kind, &[qubit % rows], &[]));
+        if rows > 0 && random.percent(95) {
+            let row = qubit % rows;
+            let [lit, unread] = if qubit < rows { [LIT_Z, UNREAD_Z] } else { [LIT_X, UNREAD_X] };
+            let kind = if random.percent(5) { unread } else { lit };
+            records.push(record(kind, &[row], &[]));
+            named = Some((unread, row));
         }
     }
-    match random.below(12) {
-        0 => {
-            records.push(record(LOST, &[n], &["refused 8 2\n"]));
-            records.push(decode(63, &["refused 11 5\n"]));
+    match (random.below(24), named) {
+        (0, _) => spoiled(records, record(LOST, &[n], &["refused 8 2\n"])),
+        (1, _) => spoiled(records, record(UNREAD_Z, &[rows], &["refused 8 6\n"])),
+        (2, Some((kind, row))) => {
+            spoiled(records, record(kind, &[row], &[&format!("refused 9 {kind}\n")]))
         }
-        1 => records.push(decode(64, &["refused 10 5\n"])),
+        (3 | 4, _) => records.push(decode(64, &["refused 10 5\n"])),
         _ => records.push(decode(63, &["X ", "Z "])),
     }
+}
+
+/// A record that is refused, and the decode of the shot that this spoils.
+fn spoiled(records: &mut Vec<Record>, refused: Record) {
+    records.push(refused);
+    records.push(decode(63, &["refused 11 5\n"]));
 }
 
 pub fn bytes(records: &[Record]) -> Vec<u8> {

@@ -91,7 +91,7 @@ fn short_code(setup: &Setup) -> Checked {
 }
 
 fn text(setup: &Setup) -> Checked {
-    let expected = "shots: record 1 at byte 0, kind 104: refused 1 unknown: kinds 1 to 5, 33 to 48 and 65 to 80 wanted\n\
+    let expected = "shots: record 1 at byte 0, kind 104: refused 1 unknown: kinds 1 to 7, 33 to 48 and 65 to 80 wanted\n\
         shots: 1 byte, 1 record, 0 codes, 0 decodes, 1 refusal\n";
     told(setup, b"hello\n", "refused 1 104\n", expected)
 }
@@ -99,14 +99,19 @@ fn text(setup: &Setup) -> Checked {
 fn clean(setup: &Setup) -> Checked {
     let input = [four(), lost(0), lost(1), vec![3, 0, 0], DECODE.to_vec()].concat();
     let lines = "code 4 1 1\nX unsure 0 2 1 1 flip 1\nZ unsure 0 2 1 1 flip\n";
-    told(setup, &input, lines, "shots: 38 bytes, 7 records, 1 code, 1 decode, 0 refusals\n")
+    told(setup, &input, lines, "shots: 38 bytes, 7 records, 1 code, 1 decode, 0 refusals\n")?;
+    let input = [four(), lost(2), vec![6, 0, 0], DECODE.to_vec()].concat();
+    let lines = "code 4 1 1\nX unsure 0 1 1 1 flip\nZ certain 0 1 0 0 flip\n";
+    told(setup, &input, lines, "shots: 35 bytes, 6 records, 1 code, 1 decode, 0 refusals\n")
 }
 
 fn open_shot(setup: &Setup) -> Checked {
     let left = "shots: shot left open, not decoded\n";
-    let input = [four(), lost(0)].concat();
-    let expected = format!("shots: 28 bytes, 4 records, 1 code, 0 decodes, 0 refusals\n{left}");
-    told(setup, &input, "code 4 1 1\n", &expected)?;
+    for record in [lost(0), vec![6, 0, 0], vec![7, 0, 0]] {
+        let input = [four(), record].concat();
+        let expected = format!("shots: 28 bytes, 4 records, 1 code, 0 decodes, 0 refusals\n{left}");
+        told(setup, &input, "code 4 1 1\n", &expected)?;
+    }
     let input = [four(), lost(4)].concat();
     let expected = format!(
         "shots: record 4 at byte 25, kind 2: refused 8 range: qubit 4 of 4 qubits\n\
@@ -116,7 +121,8 @@ fn open_shot(setup: &Setup) -> Checked {
 }
 
 fn equal_refusals(setup: &Setup) -> Checked {
-    let input = [four(), lost(4), lost(0), lost(5), lost(6), DECODE.to_vec(), lost(7), lost(8)].concat();
+    let input =
+        [four(), lost(4), lost(0), lost(5), lost(6), DECODE.to_vec(), lost(7), lost(8)].concat();
     let lines = "code 4 1 1\nrefused 8 2\nrefused 8 2\nrefused 8 2\nrefused 11 5\nrefused 8 2\nrefused 8 2\n";
     let expected = "shots: record 4 at byte 25, kind 2: refused 8 range: qubit 4 of 4 qubits\n\
         shots: 2 more refused with 8\n\
@@ -143,11 +149,14 @@ fn wanted(setup: &Setup, records: &[&[u8]], expected: &str) -> Checked {
     }
 }
 
+#[rustfmt::skip]
 fn each_refusal(setup: &Setup) -> Checked {
     let odd: &[u8] = &[65, 0, 0];
-    let cases: [(&[&[u8]], &str); 18] = [
-        (&[&[6]], "1 unknown: kinds 1 to 5, 33 to 48 and 65 to 80 wanted"),
+    let cases: [(&[&[u8]], &str); 28] = [
+        (&[&[8]], "1 unknown: kinds 1 to 7, 33 to 48 and 65 to 80 wanted"),
         (&[&[1, 4, 0]], "2 length: cut off, 3 of 7 bytes"),
+        (&[&[6]], "2 length: cut off, 1 of 3 bytes"),
+        (&[&[7, 0]], "2 length: cut off, 2 of 3 bytes"),
         (&[&[1, 1, 4, 1, 0, 3, 2]], "3 size: 1025 qubits, 1 X rows, 515 Z rows; 1 to 1024 and up to 512 of each wanted"),
         (&[X_ROW], "4 place: no code is loading"),
         (&[SIZES, Z_ROW], "4 place: row 0 of 1 X rows awaited"),
@@ -157,11 +166,19 @@ fn each_refusal(setup: &Setup) -> Checked {
         (&[SIZES, X_ROW, odd], "6 clash: some X row and some Z row share an odd number of qubits"),
         (&[DECODE], "7 codeless: no code is loaded"),
         (&[SIZES, X_ROW, DECODE], "7 codeless: code incomplete: 1 of 2 rows"),
+        (&[&[6, 0, 0]], "7 codeless: no code is loaded"),
+        (&[SIZES, X_ROW, &[7, 0, 0]], "7 codeless: code incomplete: 1 of 2 rows"),
         (&[SIZES, X_ROW, Z_ROW, &[2, 144, 0]], "8 range: qubit 144 of 4 qubits"),
         (&[SIZES, X_ROW, Z_ROW, &[3, 1, 0]], "8 range: Z row 1 of 1 Z rows"),
         (&[SIZES, X_ROW, Z_ROW, &[4, 1, 1]], "8 range: X row 257 of 1 X rows"),
+        (&[SIZES, X_ROW, Z_ROW, &[6, 1, 0]], "8 range: Z row 1 of 1 Z rows"),
+        (&[SIZES, X_ROW, Z_ROW, &[7, 1, 1]], "8 range: X row 257 of 1 X rows"),
         (&[SIZES, X_ROW, Z_ROW, &[2, 3, 0], &[2, 3, 0]], "9 twice: qubit 3 is in this shot already"),
         (&[SIZES, X_ROW, Z_ROW, &[4, 0, 0], &[4, 0, 0]], "9 twice: X row 0 is in this shot already"),
+        (&[SIZES, X_ROW, Z_ROW, &[3, 0, 0], &[6, 0, 0]], "9 twice: Z row 0 is in this shot already"),
+        (&[SIZES, X_ROW, Z_ROW, &[6, 0, 0], &[3, 0, 0]], "9 twice: Z row 0 is in this shot already"),
+        (&[SIZES, X_ROW, Z_ROW, &[6, 0, 0], &[6, 0, 0]], "9 twice: Z row 0 is in this shot already"),
+        (&[SIZES, X_ROW, Z_ROW, &[4, 0, 0], &[7, 0, 0]], "9 twice: X row 0 is in this shot already"),
         (&[SIZES, X_ROW, Z_ROW, &[5, 64, 0, 0]], "10 budget: 64 guesses, at most 63 wanted"),
         (&[SIZES, X_ROW, Z_ROW, &[2, 3]], "2 length: cut off, 2 of 3 bytes"),
     ];
@@ -201,12 +218,19 @@ fn help(setup: &Setup) -> Checked {
 
 fn version(setup: &Setup) -> Checked {
     let actual = argument(setup, &["--version"])?;
-    same("standard output", &actual.0, "shots 1\n")?;
+    same("standard output", &actual.0, "shots 2\n")?;
     same("standard error", &actual.1, "")
 }
 
 fn another_argument(setup: &Setup) -> Checked {
-    for arguments in [&["records"][..], &[""], &["--helpful"], &["-"], &["--help", "--version"], &[&"x".repeat(9_000)]] {
+    for arguments in [
+        &["records"][..],
+        &[""],
+        &["--helpful"],
+        &["-"],
+        &["--help", "--version"],
+        &[&"x".repeat(9_000)],
+    ] {
         let actual = argument(setup, arguments)?;
         same("standard output", &actual.0, "")?;
         let expected = "shots: takes no argument but --help or --version; records are read from standard input\n";

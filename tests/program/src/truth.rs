@@ -39,7 +39,9 @@ impl Truth {
     /// What standard error is told of a write that failed after so many bytes.
     pub fn told(&self, taken: usize) -> String {
         let answered = self.answered(taken);
-        format!("shots: writing failed after {taken} bytes; {answered} records were answered in full\n")
+        format!(
+            "shots: writing failed after {taken} bytes; {answered} records were answered in full\n"
+        )
     }
 
     /// Places at which a write may fail: on and beside some ends of lines and of answers and some multiples of a power of

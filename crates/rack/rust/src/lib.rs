@@ -1,12 +1,14 @@
 //! The loss decoder for Rust, over the static library that `include/rack.h` declares for C.
 //!
 //! A [`Rack`] owns its lists and takes a record a call: a code's sizes and rows, then for each shot
-//! the lost qubits, the lit rows and a decode. What is refused is an error. A decode's [`Report`]
-//! borrows the rack's lists, so it can't be read after another call has changed them.
+//! the lost qubits, the lit rows, the rows that could not be read, and a decode. What is refused is
+//! an error. A decode's [`Report`] borrows the rack's lists, so it can't be read after another call
+//! has changed them.
 //!
 //! Which half reads which rows: the X half holds X errors, found from the Z rows, so
-//! [`Rack::lit_z`] is about the X half. The Z half holds Z errors, found from the X rows, so
-//! [`Rack::lit_x`] is about the Z half. Nothing can object to the two exchanged.
+//! [`Rack::lit_z`] and [`Rack::unread_z`] are about the X half. The Z half holds Z errors, found
+//! from the X rows, so [`Rack::lit_x`] and [`Rack::unread_x`] are about the Z half. Nothing can
+//! object to the two exchanged.
 //!
 //! `README.md` of the repository has the tables of records, words and refusals; `examples/rust` is
 //! a whole program.

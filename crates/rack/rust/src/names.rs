@@ -58,7 +58,9 @@ names! {
 }
 
 names! {
-    /// Why a record is refused.
+    /// Why a record is refused. Lost qubits and lit or unread rows: codeless without a complete
+    /// code, range where there is no such qubit or row, twice for a qubit that is lost already or
+    /// a row that is lit or unread already.
     Refusal, "refusal", u16;
     Unknown = refusal::UNKNOWN, "unknown";
     Length = refusal::LENGTH, "length";

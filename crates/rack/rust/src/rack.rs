@@ -93,6 +93,18 @@ impl Rack {
         self.take(Record::lit_x(row))
     }
 
+    /// A Z row could not be read: the X half is found without it. For the Z half it is a row of the
+    /// other kind all the same.
+    pub fn unread_z(&mut self, row: usize) -> Result<Answer<'_>, Error> {
+        self.take(Record::unread_z(row))
+    }
+
+    /// An X row could not be read: the Z half is found without it. For the X half it is a row of
+    /// the other kind all the same.
+    pub fn unread_x(&mut self, row: usize) -> Result<Answer<'_>, Error> {
+        self.take(Record::unread_x(row))
+    }
+
     /// Reports both halves and ends the shot. `raw::most::BUDGET` and `raw::most::LIMIT` unless you
     /// know better.
     pub fn decode(&mut self, budget: usize, limit: usize) -> Result<Report<'_>, Error> {

@@ -1,7 +1,7 @@
 //! What `include/rack.h` declares, number for number.
 
 /// The version of records, lists and structs.
-pub const VERSION: u16 = 1;
+pub const VERSION: u16 = 2;
 
 /// The kind of a record, its first byte. A row's is this and as many more as it has qubits.
 pub mod kind {
@@ -10,6 +10,8 @@ pub mod kind {
     pub const LIT_Z: u8 = 3;
     pub const LIT_X: u8 = 4;
     pub const DECODE: u8 = 5;
+    pub const UNREAD_Z: u8 = 6;
+    pub const UNREAD_X: u8 = 7;
     pub const X_ROW: u8 = 32;
     pub const Z_ROW: u8 = 64;
 }

@@ -41,6 +41,18 @@ impl Record {
         Record::of(kind::LIT_X).and(row)
     }
 
+    /// A Z row could not be read: the X half is found without it. For the Z half it is a row of the
+    /// other kind all the same.
+    pub fn unread_z(row: usize) -> Record {
+        Record::of(kind::UNREAD_Z).and(row)
+    }
+
+    /// An X row could not be read: the Z half is found without it. For the X half it is a row of
+    /// the other kind all the same.
+    pub fn unread_x(row: usize) -> Record {
+        Record::of(kind::UNREAD_X).and(row)
+    }
+
     /// A budget that a byte can't hold is written as 255, and refused.
     pub fn decode(budget: usize, limit: usize) -> Record {
         Record::of(kind::DECODE).byte(budget.min(255) as u8).and(limit)
