@@ -102,12 +102,13 @@ module _ (i left : ℕ) (old : List ℕ) (few : i < 512) (long : 9216 ≤ length
   was : single? old i ≡ eqb (left + 1) 1
   was = rw (← is)
 
-  lowered : (new : List ℕ) → length new ≡ length old → ((k : ℕ) → k < 8192 → getD new k 0 ≡ getD old k 0) → Counts new
+  lowered : (new : List ℕ) → length new ≡ length old → ((k : ℕ) → k < 8192 → getD new k 0 ≡ getD old k 0) → ((k : ℕ) → 9216 ≤ k → getD new k 0 ≡ getD old k 0) → Counts new
       → ((n : ℕ) → n ≤ 512 → i < n → Tallied n old → Tallied n new) → Lowered i old new left
-  lowered new same below c t =
+  lowered new same below past c t =
       record {
         long = same;
         below = below;
+        past = past;
         counts = λ a b d. (is, λ j h. c j ∙ mid-count j);
         tallied = λ a b d n h l v. t n h l v;
       }
@@ -115,13 +116,16 @@ module _ (i left : ℕ) (old : List ℕ) (few : i < 512) (long : 9216 ≤ length
   mid-below : (k : ℕ) → k < 8192 → getD mid k 0 ≡ getD old k 0
   mid-below k h = getD-set-other old (8704 + i) k left 0 (λ e. omega arith)
 
+  mid-past : (k : ℕ) → 9216 ≤ k → getD mid k 0 ≡ getD old k 0
+  mid-past k h = getD-set-other old (8704 + i) k left 0 (λ e. omega arith)
+
   total-mid : getD mid 8200 0 ≡ getD old 8200 0
   total-mid = getD-set-other old (8704 + i) 8200 left 0 (λ e. omega arith)
 
   -- The row neither dangled nor dangles.
   pub lowered-more : 2 ≤ left → Lowered i old mid left
   lowered-more h =
-      lowered mid (length-set old (8704 + i) left) mid-below (λ j. refl)
+      lowered mid (length-set old (8704 + i) left) mid-below mid-past (λ j. refl)
       (λ n a b v. record {
         dangling = λ j l. mid-sets 1024 j (omega arith) l ∙ v .dangling j l ∙ ap (λ (x : Bool). cond (ltb j n) x false) (sym (same j));
         total = total-mid ∙ v .total ∙ sym (tally-same n (single? old) (single? mid) (λ j l. same j));
@@ -152,7 +156,7 @@ module _ (i left : ℕ) (old : List ℕ) (few : i < 512) (long : 9216 ≤ length
 
     turned-over : single? new i ≡ not (single? old i) → ((n : ℕ) → n ≤ 512 → i < n → Tallied n old → getD new 8200 0 ≡ tally n (single? new)) → Lowered i old new left
     turned-over turned t =
-        lowered new (c .long ∙ length-set old (8704 + i) left) (λ k h. c .below k h ∙ mid-below k h) new-counts
+        lowered new (c .long ∙ length-set old (8704 + i) left) (λ k h. c .below k h ∙ mid-below k h) (λ k h. c .beyond k (omega arith) ∙ mid-past k h) new-counts
         (λ n a b v. record { dangling = flipped turned n b v; total = t n a b v })
 
   pub lowered-none : left ≡ 0 → (new : List ℕ) → Changed i false mid new → Lowered i old new left
@@ -180,7 +184,7 @@ module _ (i left : ℕ) (old : List ℕ) (few : i < 512) (long : 9216 ≤ length
 module _ (i : ℕ) (old : List ℕ) where
   -- Where the list is short, there is no such row, or its number is 0.
   pub lowered-not : (9216 ≤ length old → i < 512 → 1 ≤ getD old (8704 + i) 0 → ⊥) → Lowered i old old 0
-  lowered-not f = record { long = refl; below = λ k h. refl; counts = λ a b d. absurd (f a b d); tallied = λ a b d. absurd (f a b d) }
+  lowered-not f = record { long = refl; below = λ k h. refl; past = λ k h. refl; counts = λ a b d. absurd (f a b d); tallied = λ a b d. absurd (f a b d) }
 
 ----------------------------------------------------------------------
 -- The lowest dangling row

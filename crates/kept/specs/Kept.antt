@@ -65,6 +65,7 @@ pub record Changed (i : ℕ) (joins : Bool) (old new : List ℕ) : Type 0 where
 pub record Lowered (i : ℕ) (old new : List ℕ) (left : ℕ) : Type 0 where
   pub long : length new ≡ length old
   pub below : (k : ℕ) → k < 8192 → getD new k 0 ≡ getD old k 0
+  pub past : (k : ℕ) → 9216 ≤ k → getD new k 0 ≡ getD old k 0
   pub counts : 9216 ≤ length old → i < 512 → 1 ≤ getD old (8704 + i) 0
       → (left + 1 ≡ getD old (8704 + i) 0) × ((j : ℕ) → j < 512 → getD new (8704 + j) 0 ≡ cond (eqb i j) left (getD old (8704 + j) 0))
   pub tallied : 9216 ≤ length old → i < 512 → 1 ≤ getD old (8704 + i) 0 → (count : ℕ) → count ≤ 512 → i < count → Tallied count old → Tallied count new

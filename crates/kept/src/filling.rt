@@ -2,10 +2,10 @@
 ghost use mathlib.Core.Path.{_≡_};
 ghost use Prim.Native.Nat.{suc, _+_, _≤_, _<_};
 ghost use lib.ListN.{length};
-ghost use Rattle.kept.specs.Rows.{read?, readRow};
 ghost use Rattle.kept.specs.Kept.{Emptied, RowAdded, KeptTo, fits?};
 use crate::change;
 use crate::is_open;
+use crate::read_row;
 use code::Qubit;
 use code::Row;
 
@@ -22,26 +22,6 @@ pub fn empty_sets(n: usize, marks: &[u8], work: &mut [u64])
         q += 1;
     }
     lists::clear_words(work, 8192, 8201);
-}
-
-// Whether the row was read.
-pub fn is_read(lit: &[u8], r: Row) -> bool
-    requires { do ⌜ r .0 < (← ⟦lit.len()⟧) ⌝ }
-    ensures { λ b. ⌜ b ≡ read? (now (lit .entry)) (r .0) ⌝ }
-{
-    let at = r.0 as usize;
-    lit[at] != 2
-}
-
-// The row's qubits; an unread row is left out of the half's matrix, and has none.
-fn read_row<'a>(flat: &'a [u16], ends: &[u16], lit: &[u8], r: Row) -> &'a [u16]
-    requires { do ⌜ r .0 < (← ⟦lit.len()⟧) ⌝ }
-    ensures { λ row. ⌜ now row ≡ readRow (now (flat .entry)) (now (ends .entry)) (now (lit .entry)) (r .0) ⌝ }
-{
-    if is_read(lit, r) {
-        return code::row_at(flat, ends, r);
-    }
-    &flat[0..0]
 }
 
 // Row i is on each of its open qubits; how many these are.

@@ -6,10 +6,12 @@ ghost use Prim.Native.Nat.{ℕ, _≤_, _<_};
 ghost use lib.ListN.{length};
 ghost use Rattle.machine.specs.Machine.{isOpen};
 ghost use Rattle.machine.specs.Lists.{view};
+ghost use Rattle.kept.specs.Rows.{read?, readRow};
 ghost use Rattle.kept.specs.Kept.{Changed, Lowered, Lowest, fits?, Fills};
 mod filling;
 
 use code::Qubit;
+use code::Row;
 use code::Rows;
 
 // Whether the qubit is open.
@@ -24,6 +26,27 @@ pub fn is_open(n: usize, marks: &[u8], q: Qubit) -> bool
         return false;
     }
     marks[at] == 4
+}
+
+// Whether the row was read.
+pub fn is_read(lit: &[u8], r: Row) -> bool
+    ensures { λ b. ⌜ b ≡ read? (now (lit .entry)) (r .0) ⌝ }
+{
+    let at = r.0 as usize;
+    if lit.len() <= at {
+        return true;
+    }
+    lit[at] != 2
+}
+
+// The row's qubits; an unread row is left out of the half's matrix, and has none.
+pub fn read_row<'a>(flat: &'a [u16], ends: &[u16], lit: &[u8], r: Row) -> &'a [u16]
+    ensures { λ row. ⌜ now row ≡ readRow (now (flat .entry)) (now (ends .entry)) (now (lit .entry)) (r .0) ⌝ }
+{
+    if is_read(lit, r) {
+        return code::row_at(flat, ends, r);
+    }
+    &flat[0..0]
 }
 
 // Row i joins the dangling rows, or leaves them.

@@ -1,8 +1,8 @@
--- `kept::filling::read_row` meets its contract. Assumes nothing.
+-- `kept::read_row` meets its contract. Assumes nothing.
 use mathlib.Core.Path.{refl}
 use borrow.Author.Needs.{needs}
-use Rattle.kept.proofs.filling.read_row.Statement.{statement}
-use Rattle.kept.proofs.filling.read_row.Tie as tie
+use Rattle.kept.proofs.read_row.Statement.{statement}
+use Rattle.kept.proofs.read_row.Tie as tie
 
 is-read-requires : tie.Need-is-read-requires
 is-read-requires c κs = search needs
