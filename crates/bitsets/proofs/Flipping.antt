@@ -47,7 +47,7 @@ module _ (s i : ℕ) (old : List ℕ) where
       by t j h (yes e) =
           let same : t ≡ s = omega arith in
           let digit : eqb (i % 64) (j % 64) ≡ eqb j i =
-            iff-eq (eqb (i % 64) (j % 64)) (eqb j i) (λ u. let d = eqb-true (i % 64) (j % 64) u in eq-eqb j i (omega arith)) (λ u. let d = eqb-true j i u in eq-eqb (i % 64) (j % 64) (omega arith)) in
+          iff-eq (eqb (i % 64) (j % 64)) (eqb j i) (λ u. let d = eqb-true (i % 64) (j % 64) u in eq-eqb j i (omega arith)) (λ u. let d = eqb-true j i u in eq-eqb (i % 64) (j % 64) (omega arith)) in
           ap (λ (x : ℕ). Words.bit (getD (set old at word) x 0) (j % 64)) e ∙ ap (λ (x : ℕ). Words.bit x (j % 64)) (getD-set-same old at word 0 inside) ∙ word-bits (j % 64)
           ∙ ap₂ _⊕_ (ap (λ (x : ℕ). Words.bit (getD old x 0) (j % 64)) (sym e)) (digit ∙ ap (λ (b : Bool). b && eqb j i) (sym (eq-eqb t s same)))
       by t j h (no e) =

@@ -165,7 +165,7 @@ module _ (n i : ℕ) (row marks old : List ℕ) where
 -- The rows before i, and row i
 
 -- Of rows that are each so, row i is.
-row-of : (P : Row → Type 0) (flat ends : List ℕ) (r number i : ℕ) → i < number → All P (rowsFrom flat ends r number) → P (rowAt flat ends (r + i))
+pub row-of : (P : Row → Type 0) (flat ends : List ℕ) (r number i : ℕ) → i < number → All P (rowsFrom flat ends r number) → P (rowAt flat ends (r + i))
 row-of P flat ends r zero i h a = absurd (omega arith)
 row-of P flat ends r (suc number) zero h a = rw (add-zero r) (a .0)
 row-of P flat ends r (suc number) (suc i) h a =
@@ -183,7 +183,8 @@ pub kept-start : (n : ℕ) (c : RowLists) (marks old new : List ℕ) → Emptied
 kept-start n c marks old new e =
     record {
       counts = λ j h. absurd (omega arith);
-      tallied = record { dangling = λ j h. rw (le-ltb j 0 (omega arith)) (e .dangling j h); total = e .total };
+      tallied = record { dangling = λ j h. absurd (omega arith); total = e .total };
+      free = λ j h l. e .dangling j l;
       on = λ a q j t h. rw (le-ltb j 0 (omega arith)) (e .sets q j t h);
     }
 
@@ -263,14 +264,6 @@ module _ (n i : ℕ) (c : RowLists) (marks old mid : List ℕ) (number : ℕ) (s
       past : (j : ℕ) → ltb j i ≡ false → (j ≡ i → ⊥) → suc i ≤ j
       past j t d = ⊎-elim (λ (l : j < i). never (lt-ltb j i l) t) (λ (l : i ≤ j). omega arith) (order j i)
 
-  -- The test of the rows before row i + 1: row i's own, or that of the rows before i.
-  grown : (x y : Bool) (j : ℕ) → cond (ltb j (suc i)) (cond (eqb j i) x y) false ≡ cond (eqb j i) x (cond (ltb j i) y false)
-  grown x y j = rw (next j) (by (eqb j i))
-    where
-      by : (b : Bool) → cond (cond b true (ltb j i)) (cond b x y) false ≡ cond b x (cond (ltb j i) y false)
-      by true = refl
-      by false = refl
-
   not-yet : (j : ℕ) (y : Bool) → eqb j i ≡ true → cond (ltb j i) y false ≡ false
   not-yet j y e = let s = eqb-true j i e in rw (le-ltb j i (omega arith))
 
@@ -283,11 +276,13 @@ module _ (n i : ℕ) (c : RowLists) (marks old mid : List ℕ) (number : ℕ) (s
         counts = λ j l. w .counts j ∙ written-count j ∙ bit (eqb j i)
             (λ e. let s = eqb-true j i e in rw (e, s) (a .count)) (λ e. rw e (so .counts j (let d = eqb-false j i e in omega arith)));
         tallied = record {
-          dangling = λ j l. w .dangling j l ∙ ap (λ (x : Bool). x ⊕ (eqb number 1 && eqb j i)) (so .tallied .dangling j l)
-              ∙ dangling-new j ∙ ap (λ (x : Bool). cond (ltb j (suc i)) x false) (sym (single-new new w j));
+          dangling = λ j l. w .dangling j (omega arith) ∙ bit (eqb j i)
+              (λ e. let s = eqb-true j i e in rw (s, eq-eqb i i refl, so .free i (omega arith) (omega arith)) (own-test (eqb number 1) ∙ sym (own-single new w)))
+              (λ e. let d = eqb-false j i e in rw (e, so .tallied .dangling j (omega arith)) (other-test (single? old j) (eqb number 1) ∙ sym (other-single new w j (omega arith))));
           total = w .total few-dangle ∙ ap₂ Bits.count (sym (own-single new w))
               (so .tallied .total ∙ sym (tally-same i (single? old) (single? new) (other-single new w)));
         };
+        free = λ j l m. w .dangling j m ∙ rw (ne-eqb j i (λ t. absurd (omega arith)), so .free j (omega arith) m) (other-test false (eqb number 1));
         on = λ rows q j t l.
             let b = open-below n marks q t in
             w .sets q j (omega arith) l ∙ a .sets (own rows) q j t l ∙ ap (λ (x : Bool). x ⊕ (eqb j i && has (rowIn c i) q)) (so .on rows q j t l) ∙ on-new q j;
@@ -298,21 +293,15 @@ module _ (n i : ℕ) (c : RowLists) (marks old mid : List ℕ) (number : ℕ) (s
           read-distinct (read? (c .lit) (c .first + i)) (rowAt (c .flat) (c .ends) (c .first + i))
           (ascending-distinct n (rowAt (c .flat) (c .ends) (c .first + i)) (row-of (Ascending n) (c .flat) (c .ends) (c .first) (c .count) i h rows))
 
-      dangling-new : (j : ℕ) → cond (ltb j i) (single? old j) false ⊕ (eqb number 1 && eqb j i) ≡ cond (ltb j (suc i)) (cond (eqb j i) (eqb number 1) (single? old j)) false
-      dangling-new j =
-          bit (eqb j i)
-          (λ e. ap₂ _⊕_ (not-yet j (single? old j) e) (ap (λ (b : Bool). eqb number 1 && b) e) ∙ own-test (eqb number 1) ∙ sym (grown (eqb number 1) (single? old j) j ∙ rw e))
-          (λ e. ap (λ (b : Bool). cond (ltb j i) (single? old j) false ⊕ (eqb number 1 && b)) e ∙ rest (cond (ltb j i) (single? old j) false) (eqb number 1) ∙ sym (grown (eqb number 1) (single? old j) j ∙ rw e))
-        where
-          own-test : (x : Bool) → false ⊕ (x && true) ≡ x
-          own-test true = refl
-          own-test false = refl
+      own-test : (x : Bool) → false ⊕ (x && true) ≡ x
+      own-test true = refl
+      own-test false = refl
 
-          rest : (x y : Bool) → x ⊕ (y && false) ≡ x
-          rest true true = refl
-          rest true false = refl
-          rest false true = refl
-          rest false false = refl
+      other-test : (x y : Bool) → x ⊕ (y && false) ≡ x
+      other-test true true = refl
+      other-test true false = refl
+      other-test false true = refl
+      other-test false false = refl
 
       on-new : (q j : ℕ) → cond (ltb j i) (has (rowIn c j) q) false ⊕ (eqb j i && has (rowIn c i) q) ≡ cond (ltb j (suc i)) (has (rowIn c j) q) false
       on-new q j =
@@ -329,6 +318,39 @@ module _ (n i : ℕ) (c : RowLists) (marks old mid : List ℕ) (number : ℕ) (s
 ----------------------------------------------------------------------
 -- All rows
 
+-- Numbers that are a fresh count, and the dangling rows by them.
+pub kept-by : (o : Qubits) (c : RowLists) (work : List ℕ) → ((i : ℕ) → i < c .count → getD work (8704 + i) 0 ≡ openIn o c i) → Tallied (c .count) work → Kept o c work
+kept-by o c work counts t =
+    record {
+      counts = counts;
+      dangling = λ i h. t .dangling i h ∙ ap (λ (x : ℕ). eqb x 1) (counts i h);
+      total = t .total ∙ tally-same (c .count) (dangles? o c) (single? work) (λ i h. ap (λ (x : ℕ). eqb x 1) (counts i h));
+    }
+
+pub tallied-by : (o : Qubits) (c : RowLists) (work : List ℕ) → Kept o c work → Tallied (c .count) work
+tallied-by o c work k =
+    record {
+      dangling = λ i h. k .dangling i h ∙ ap (λ (x : ℕ). eqb x 1) (sym (k .counts i h));
+      total = k .total ∙ sym (tally-same (c .count) (dangles? o c) (single? work) (λ i h. ap (λ (x : ℕ). eqb x 1) (k .counts i h)));
+    }
+
+-- A list that has the same elements below 9216.
+pub kept-same : (o : Qubits) (c : RowLists) (work work′ : List ℕ) → c .count ≤ 512 → ((k : ℕ) → k < 9216 → getD work′ k 0 ≡ getD work k 0) → Kept o c work → Kept o c work′
+unfolding inSet
+kept-same o c work work′ few same k =
+    record {
+      counts = λ i h. same (8704 + i) (omega arith) ∙ k .counts i h;
+      dangling = λ i h. ap (λ (x : ℕ). Words.bit x (i % 64)) (same (8 * 1024 + i / 64) (omega arith)) ∙ k .dangling i h;
+      total = same 8200 (omega arith) ∙ k .total;
+    }
+
+-- One that has the same below 8192, and qubits that were open before.
+pub rows-same : (n : ℕ) (o o′ : Qubits) (c : RowLists) (work work′ : List ℕ) → c .count ≤ 512 → ((k : ℕ) → k < 8192 → getD work′ k 0 ≡ getD work k 0)
+    → ((q : ℕ) → o′ q ≡ true → (o q ≡ true) × (q < 1024)) → RowsOn o c work → RowsOn o′ c work′
+unfolding inSet
+rows-same n o o′ c work work′ few same was r =
+    record { on = λ q i e h. let w = was q e in let b = w .1 in ap (λ (x : ℕ). Words.bit x (i % 64)) (same (8 * q + i / 64) (omega arith)) ∙ r .on q i (w .0) h }
+
 module _ (n : ℕ) (c : RowLists) (marks old new : List ℕ) where
   pub fills-not : (told : Bool) → told ≡ fits? n c (length old) → not told ≡ true → new ≡ old → Fills n c marks old new
   fills-not told i u s =
@@ -339,11 +361,7 @@ module _ (n : ℕ) (c : RowLists) (marks old new : List ℕ) where
   fills same few k =
       record {
         long = same;
-        kept = λ t. record {
-          counts = k .counts;
-          dangling = λ i h. k .tallied .dangling i (omega arith) ∙ rw (lt-ltb i (c .count) h) (ap (λ (x : ℕ). eqb x 1) (k .counts i h));
-          total = k .tallied .total ∙ tally-same (c .count) (dangles? (isOpen (view n marks)) c) (single? new) (λ i h. ap (λ (x : ℕ). eqb x 1) (k .counts i h));
-        };
+        kept = λ t. kept-by (isOpen (view n marks)) c new (k .counts) (k .tallied);
         rows = λ t a. record { on = λ q i e h. k .on a q i e (omega arith) ∙ rw (lt-ltb i (c .count) h) };
       }
 

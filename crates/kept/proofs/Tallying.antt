@@ -127,7 +127,7 @@ module _ (i left : ℕ) (old : List ℕ) (few : i < 512) (long : 9216 ≤ length
   lowered-more h =
       lowered mid (length-set old (8704 + i) left) mid-below mid-past (λ j. refl)
       (λ n a b v. record {
-        dangling = λ j l. mid-sets 1024 j (omega arith) l ∙ v .dangling j l ∙ ap (λ (x : Bool). cond (ltb j n) x false) (sym (same j));
+        dangling = λ j l. mid-sets 1024 j (omega arith) (omega arith) ∙ v .dangling j l ∙ sym (same j);
         total = total-mid ∙ v .total ∙ sym (tally-same n (single? old) (single? mid) (λ j l. same j));
       })
     where
@@ -142,13 +142,12 @@ module _ (i left : ℕ) (old : List ℕ) (few : i < 512) (long : 9216 ≤ length
     new-counts : Counts new
     new-counts j = c .beyond (8704 + j) (omega arith)
 
-    flipped : single? new i ≡ not (single? old i) → (n : ℕ) → i < n → Tallied n old → (j : ℕ) → j < 512
-        → inSet new 1024 j ≡ cond (ltb j n) (single? new j) false
-    flipped turned n b v j l =
-        c .sets 1024 j (omega arith) l ∙ ap (λ (x : Bool). x ⊕ eqb j i) (mid-sets 1024 j (omega arith) l ∙ v .dangling j l)
+    flipped : single? new i ≡ not (single? old i) → (n : ℕ) → n ≤ 512 → Tallied n old → (j : ℕ) → j < n → inSet new 1024 j ≡ single? new j
+    flipped turned n a v j l =
+        c .sets 1024 j (omega arith) (omega arith) ∙ ap (λ (x : Bool). x ⊕ eqb j i) (mid-sets 1024 j (omega arith) (omega arith) ∙ v .dangling j l)
         ∙ bit (eqb i j)
-        (λ e. let d = eqb-true i j e in rw (← d, lt-ltb i n b, eq-eqb i i refl) (turn (single? old i) ∙ sym turned))
-        (λ e. rw (ne-eqb j i (λ t. eqb-false i j e (sym t)), single-other new new-counts j e) (⊕-false (cond (ltb j n) (single? old j) false)))
+        (λ e. let d = eqb-true i j e in rw (← d, eq-eqb i i refl) (turn (single? old i) ∙ sym turned))
+        (λ e. rw (ne-eqb j i (λ t. eqb-false i j e (sym t)), single-other new new-counts j e) (⊕-false (single? old j)))
       where
         turn : (x : Bool) → x ⊕ true ≡ not x
         turn true = refl
@@ -157,7 +156,7 @@ module _ (i left : ℕ) (old : List ℕ) (few : i < 512) (long : 9216 ≤ length
     turned-over : single? new i ≡ not (single? old i) → ((n : ℕ) → n ≤ 512 → i < n → Tallied n old → getD new 8200 0 ≡ tally n (single? new)) → Lowered i old new left
     turned-over turned t =
         lowered new (c .long ∙ length-set old (8704 + i) left) (λ k h. c .below k h ∙ mid-below k h) (λ k h. c .beyond k (omega arith) ∙ mid-past k h) new-counts
-        (λ n a b v. record { dangling = flipped turned n b v; total = t n a b v })
+        (λ n a b v. record { dangling = flipped turned n a v; total = t n a b v })
 
   pub lowered-none : left ≡ 0 → (new : List ℕ) → Changed i false mid new → Lowered i old new left
   lowered-none z new c =

@@ -50,7 +50,7 @@ abbrev pub single? : List ℕ → ℕ → Bool
 single? work i = eqb (getD work (8704 + i) 0) 1
 
 pub record Tallied (count : ℕ) (work : List ℕ) : Type 0 where
-  pub dangling : (i : ℕ) → i < 512 → inSet work 1024 i ≡ cond (ltb i count) (single? work i) false
+  pub dangling : (i : ℕ) → i < count → inSet work 1024 i ≡ single? work i
   pub total : getD work 8200 0 ≡ tally count (single? work)
 
 -- Row i joins the dangling rows, or leaves them.
@@ -97,6 +97,7 @@ pub record RowAdded (n i : ℕ) (row marks old new : List ℕ) (number : ℕ) : 
 pub record KeptTo (i n : ℕ) (c : RowLists) (marks work : List ℕ) : Type 0 where
   pub counts : (j : ℕ) → j < i → getD work (8704 + j) 0 ≡ openIn (isOpen (view n marks)) c j
   pub tallied : Tallied i work
+  pub free : (j : ℕ) → i ≤ j → j < 512 → inSet work 1024 j ≡ false
   pub on : All (Ascending n) (rowsFrom (c .flat) (c .ends) (c .first) (c .count))
       → (q j : ℕ) → isOpen (view n marks) q ≡ true → j < 512 → inSet work q j ≡ cond (ltb j i) (has (rowIn c j) q) false
 

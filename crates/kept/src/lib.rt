@@ -8,6 +8,7 @@ ghost use Rattle.machine.specs.Machine.{isOpen};
 ghost use Rattle.machine.specs.Lists.{view};
 ghost use Rattle.kept.specs.Rows.{read?, readRow};
 ghost use Rattle.kept.specs.Kept.{Changed, Lowered, Lowest, fits?, Fills};
+
 mod filling;
 
 use code::Qubit;
@@ -113,11 +114,7 @@ fn fits(n: u16, lit: &[u8], rows: Rows, work: &[u64]) -> bool
 {
     let first = rows.first;
     let last = first.0 as usize + rows.count as usize;
-    (n <= 1024)
-        & (rows.count <= 512)
-        & (last <= 1024)
-        & (9216 <= work.len())
-        & (last <= lit.len())
+    (n <= 1024) & (rows.count <= 512) & (last <= 1024) & (9216 <= work.len()) & (last <= lit.len())
 }
 
 // Everything kept of the rows, from the marks.

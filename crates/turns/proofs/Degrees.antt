@@ -136,6 +136,9 @@ module _ (n : ℕ) (flat ends lit : List ℕ) (first count : ℕ) where
   unfolding Counting
   counting-start old degrees f q h = let all : first + count - first ≡ count = omega arith in rw (f .inside (9216 + q) (omega arith) (omega arith), all) (omega arith)
 
+  pub counting-at : (degrees : List ℕ) (r r′ : ℕ) → r ≡ r′ → Counting n flat ends lit first count degrees r → Counting n flat ends lit first count degrees r′
+  counting-at degrees r r′ e v = subst (Counting n flat ends lit first count degrees) e v
+
   module _ (degrees : List ℕ) (r : ℕ) (left : Counting n flat ends lit first count degrees r) where
     pub counting-end : (old : List ℕ) → first + count ≤ r → length degrees ≡ length old → ((k : ℕ) → k < 9216 → getD degrees k 0 ≡ getD old k 0)
         → CountedRows n flat ends lit first count old degrees

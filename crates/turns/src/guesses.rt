@@ -29,26 +29,19 @@ fn add_row(n: usize, row: &[u16], work: &mut [u64])
 }
 
 // On how many rows that were read, of so many, each qubit is.
-pub fn count_rows(
-    n: usize,
-    flat: &[u16],
-    ends: &[u16],
-    lit: &[u8],
-    rows: Rows,
-    work: &mut [u64],
-)
+pub fn count_rows(n: usize, flat: &[u16], ends: &[u16], lit: &[u8], rows: Rows, work: &mut [u64])
     requires { ⌜ (n ≤ 1024) × (10240 ≤ length (now work)) × (rows .first .0 + rows .count ≤ length (now lit)) × (rows .first .0 + rows .count ≤ 1024) ⌝ }
     ensures { λ _. ⌜ CountedRows n (now (flat .entry)) (now (ends .entry)) (now (lit .entry)) (rows .first .0) (rows .count) (now (work .entry)) (now (work .exit)) ⌝ }
 {
     let begin = rows.first;
     let first = begin.0;
-    let stop = first + rows.count;
+    let count = rows.count;
     lists::clear_words(work, 9216, 9216 + n);
-    let mut r = first;
-    while r < stop {
-        let row = kept::read_row(flat, ends, lit, Row(r));
+    let mut i: u16 = 0;
+    while i < count {
+        let row = kept::read_row(flat, ends, lit, Row(first + i));
         add_row(n, row, work);
-        r += 1;
+        i += 1;
     }
 }
 

@@ -79,7 +79,5 @@ pub fn run_turns(
     if !fits(n, lit, rows, budget, work, marks, forms) {
         return RunAnswer::Refused;
     }
-    RunAnswer::Over(half::run_marked(
-        n, flat, ends, lit, rows, budget, limit, work, marks, forms,
-    ))
+    RunAnswer::Over(half::run_marked(n, flat, ends, lit, rows, budget, limit, work, marks, forms))
 }

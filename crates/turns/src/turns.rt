@@ -67,7 +67,20 @@ fn peel(
     let row = code::row_at(flat, ends, r);
     let at = r.0 as usize;
     let side = forms::side_of(n, row, lit[at] == 1, forms);
-    settle(n, flat, ends, lit, rows, p, 2, side, live, work, marks, forms)
+    settle(
+        n,
+        flat,
+        ends,
+        lit,
+        rows,
+        p,
+        2,
+        side,
+        live,
+        work,
+        marks,
+        forms,
+    )
 }
 
 // The open qubit p becomes a new live guess.

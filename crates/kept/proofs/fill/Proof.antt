@@ -49,7 +49,7 @@ same-length-2 : tie.Need-same-length-2 Inv-loop μ-loop
 same-length-2 c = c .before .loop .inv .1 ∙ c .before .before .before .before .empty-sets .ensures .long
 
 returns-2 : tie.Need-returns-2 Inv-loop μ-loop
-returns-2 c = 
+returns-2 c =
     let r = room-told _ _ _ _ (c .before .before .before .before .before .before .before .before .fits2 .ensures [] []) (c .before .before .before .before .before .before .before .if1 .left) in
     fills _ _ _ _ _ (c .before .loop .inv .1 ∙ c .before .before .before .before .empty-sets .ensures .long) (r .few) (kept-all _ _ _ _ _ (c .before .loop .inv .2) (omega (arith, c .loop-test .left, c .before .loop .inv .0)))
 

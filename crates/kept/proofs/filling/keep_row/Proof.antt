@@ -32,7 +32,7 @@ same-length : tie.Need-same-length
 same-length c = rw (c .before .before .change .ensures .long, length-set, c .before .before .before .before .before .before .before .add-row .ensures .long)
 
 returns : tie.Need-returns
-returns c = 
+returns c =
     let start = c .before .before .before .before .before .before .before .before .before .before .before .before .before .before .before in
     kept-dangling _ _ _ (start .args .marks .now) _ _ _ (start .pre .0 .0) (start .pre .0 .1) (start .pre .0 .2) (start .pre .0 .3) (start .pre .1)
     (added-as _ _ _ _ _ _ _ _ (c .before .before .before .before .before .before .before .before .before .read-row .ensures) (c .before .before .before .before .before .before .before .add-row .ensures)) (c .before .before .before .before .if1 .taken) _ (c .before .before .change .ensures)
@@ -41,7 +41,7 @@ same-length-2 : tie.Need-same-length-2
 same-length-2 c = search needs
 
 returns-2 : tie.Need-returns-2
-returns-2 c = 
+returns-2 c =
     let start = c .before .before .before .before .before .before .before .before .before .before .before in
     kept-plain _ _ _ (start .args .marks .now) _ _ _ (start .pre .0 .0) (start .pre .0 .1) (start .pre .0 .2) (start .pre .0 .3) (start .pre .1)
     (added-as _ _ _ _ _ _ _ _ (c .before .before .before .before .before .read-row .ensures) (c .before .before .before .add-row .ensures)) (c .if1 .left)

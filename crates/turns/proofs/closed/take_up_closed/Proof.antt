@@ -1,76 +1,76 @@
+-- `turns::closed::take_up_closed` meets its contract: what is left to take up comes to the whole. Assumes nothing.
+use borrow.Author.Needs.{needs}
+use mathlib.Core.Path.{_≡_, _∙_}
+use Prim.Native.Nat.{ℕ, _-_, _≤_}
+use native.Mathlib.Omega.{arith}
+use lib.ListN.{length}
+use Rattle.turns.proofs.TakingRows.{Starting, starting, starting-failed, topped-on, starting-turn, starting-end, took-cleared}
 use Rattle.turns.proofs.closed.take_up_closed.Statement.{statement}
 use Rattle.turns.proofs.closed.take_up_closed.Tie as tie
-use Rattle.turns.proofs.closed.take_up_closed.Reads as reads
-use Rattle.turns.proofs.closed.take_up_closed.Lts as lts
-use Rattle.lists.proofs.clear_words.Reads as clear-words-reads
-use Rattle.turns.proofs.closed.is_closed.Reads as is-closed-reads
-use Rattle.turns.proofs.closed.take_up_if.Reads as take-up-if-reads
+
+enough : {n long longer : ℕ} → long ≡ longer → n ≤ longer → n ≤ long
+enough e h = rw e h
 
 abbrev Inv-loop : tie.InvT-loop
-Inv-loop n flat ends lit work forms₀ first count left₀ i₀ forms left i = ?
+Inv-loop n flat ends lit work forms₀ first count left₀ i₀ forms left i = (i ≤ count) × Starting n (record { flat = flat; ends = ends; lit = lit; first = first; count = count }) work forms₀ i left forms
 
 abbrev μ-loop : tie.MeasureT-loop
-μ-loop n flat ends lit work forms₀ first count left₀ i₀ forms left i = ?
+μ-loop n flat ends lit work forms₀ first count left₀ i₀ forms left i = count - i
 
--- src/closed.rt:59:5
 clear-words-requires : tie.Need-clear-words-requires Inv-loop μ-loop
-clear-words-requires c κs = ?
+clear-words-requires c κs = search needs
 
--- src/closed.rt:65:5
 loop-holds : tie.Need-loop-holds Inv-loop μ-loop
-loop-holds c = ?
+loop-holds c = (search needs, starting _ _ _ _ _ (c .before .before .before .clear-words .ensures))
 
--- src/closed.rt:66:41
 add-t20 : tie.Need-add-t20 Inv-loop μ-loop
-add-t20 c = ?
+add-t20 c = search needs
 
--- src/closed.rt:66:13
 is-closed-requires : tie.Need-is-closed-requires Inv-loop μ-loop
-is-closed-requires c κs = ?
+is-closed-requires c κs = (omega (arith, c .loop-test .taken, c .before .before .before .before .before .before .before .before .before .before .before .before .pre .3), omega (arith, c .loop-test .taken, c .before .before .before .before .before .before .before .before .before .before .before .before .pre .1), c .before .before .before .before .before .before .before .before .before .before .before .before .pre .2)
 
--- src/closed.rt:67:56
 add-t20-2 : tie.Need-add-t20-2 Inv-loop μ-loop
-add-t20-2 c = ?
+add-t20-2 c = search needs
 
--- src/closed.rt:67:13
 take-up-if-requires : tie.Need-take-up-if-requires Inv-loop μ-loop
-take-up-if-requires c κs = ?
+take-up-if-requires c κs = omega (arith, c .before .before .loop-test .taken, c .before .before .before .before .before .before .before .before .before .before .before .before .before .before .pre .3)
 
--- src/closed.rt:68:25
 enum-known-taken : tie.Need-enum-known-taken Inv-loop μ-loop
-enum-known-taken c = ?
+enum-known-taken c = search needs
 
--- src/closed.rt:69:13
 enum-told : tie.Need-enum-told Inv-loop μ-loop
-enum-told c = ?
+enum-told c = search needs
 
--- src/closed.rt:69:13
 same-length : tie.Need-same-length Inv-loop μ-loop
-same-length c = ?
+same-length c = c .before .before .before .before .take-up-if .ensures .long ∙ c .before .before .before .before .before .before .before .before .loop .inv .1 .long ∙ c .before .before .before .before .before .before .before .before .before .before .before .before .clear-words .ensures .long
 
--- src/closed.rt:69:13
 returns : tie.Need-returns Inv-loop μ-loop
-returns c = ?
+returns c =
+    took-cleared _ _ _ _ _ _ _ (c .before .before .before .before .before .before .before .before .before .before .before .before .clear-words .ensures)
+    (starting-failed _ _ _ _ _ _ _ (c .before .before .before .before .before .before .before .before .loop .inv .1) (c .before .before .before .before .before .before .before .loop-test .taken) (enough (c .before .before .before .before .before .before .before .before .loop .inv .1 .long ∙ c .before .before .before .before .before .before .before .before .before .before .before .before .clear-words .ensures .long) (c .before .before .before .before .before .before .before .before .before .before .before .before .before .before .before .before .before .before .before .pre .0)) _ (c .before .before .before .before .before .before .is-closed .ensures) _ _ (c .before .before .before .before .take-up-if .ensures)
+    (c .enum-told .given .1))
 
--- src/closed.rt:72:9
 add-i : tie.Need-add-i Inv-loop μ-loop
-add-i c = ?
+add-i c = search needs
 
--- src/closed.rt:65:5
 loop-less : tie.Need-loop-less Inv-loop μ-loop
-loop-less c = ?
+loop-less c = search needs
 
--- src/closed.rt:65:5
 loop-again : tie.Need-loop-again Inv-loop μ-loop
-loop-again c = ?
+loop-again c =
+    let s = c .before .before .before .before .before .before .before .before .before .loop .inv .1 in
+    let room = enough (s .long ∙ c .before .before .before .before .before .before .before .before .before .before .before .before .before .clear-words .ensures .long) (c .before .before .before .before .before .before .before .before .before .before .before .before .before .before .before .before .before .before .before .before .pre .0) in
+    let t = c .before .before .before .before .before .take-up-if .ensures in
+    let e = c .before .taken .given .1 in (
+      search needs,
+      starting-turn _ _ _ _ _ _ _ s (c .before .before .before .before .before .before .before .before .loop-test .taken) room _ (c .before .before .before .before .before .before .before .is-closed .ensures) _ _ t _ e (topped-on _ _ _ _ _ _ _ s (c .before .before .before .before .before .before .before .before .loop-test .taken) room _ (c .before .before .before .before .before .before .before .is-closed .ensures) _ _ t _ e),
+    )
 
--- src/closed.rt:47:1
 same-length-2 : tie.Need-same-length-2 Inv-loop μ-loop
-same-length-2 c = ?
+same-length-2 c = c .before .loop .inv .1 .long ∙ c .before .before .before .before .before .clear-words .ensures .long
 
--- src/closed.rt:47:1
 returns-2 : tie.Need-returns-2 Inv-loop μ-loop
-returns-2 c = ?
+returns-2 c = took-cleared _ _ _ _ _ _ _ (c .before .before .before .before .before .clear-words .ensures) (starting-end _ _ _ _ _ _ _ (c .before .loop .inv .1) (omega (arith, c .loop-test .left)))
 
 pub take-up-closed-spec : {M : Type 1} → statement M
 take-up-closed-spec =

@@ -1,38 +1,29 @@
+-- `turns::closed::take_up_if` meets its contract. Assumes nothing.
+use Rattle.turns.proofs.TakingRows.{row-taken, row-left}
 use borrow.Author.Needs.{needs}
 use Rattle.turns.proofs.closed.take_up_if.Statement.{statement}
 use Rattle.turns.proofs.closed.take_up_if.Tie as tie
-use Rattle.turns.proofs.closed.take_up_if.Reads as reads
-use Rattle.turns.proofs.closed.take_up_if.Lts as lts
-use Rattle.code.proofs.row_at.Reads as row-at-reads
-use Rattle.forms.proofs.take_up.Reads as take-up-reads
 
--- src/closed.rt:30:13
 row-at-requires : tie.Need-row-at-requires
 row-at-requires c κs = search needs
 
--- src/closed.rt:31:18
 cast-at : tie.Need-cast-at
 cast-at c = search needs
 
--- src/closed.rt:32:39
 shared-slice-read-take-up : tie.Need-shared-slice-read-take-up
 shared-slice-read-take-up c = search needs
 
--- src/closed.rt:32:9
 take-up-requires : tie.Need-take-up-requires
 take-up-requires c κs = search needs
 
--- src/closed.rt:32:9
 same-length : tie.Need-same-length
 same-length c = search needs
 
--- src/closed.rt:32:9
 returns : tie.Need-returns
-returns c = ?
+returns c = row-taken _ _ _ (c .before .before .before .before .before .before .before .before .before .before .before .before .args .lit .now) _ _ _ _ (c .before .before .before .before .before .before .before .if1 .taken) _ (c .before .before .before .before .before .before .row-at .ensures) _ _ (c .before .before .take-up .ensures)
 
--- src/closed.rt:16:1
 returns-2 : tie.Need-returns-2
-returns-2 c = ?
+returns-2 c = row-left _ _ _ (c .before .before .before .before .before .args .lit .now) _ _ _ _ (c .if1 .left)
 
 pub take-up-if-spec : {M : Type 1} → statement M
 take-up-if-spec =
