@@ -13,6 +13,12 @@ pub struct Qubit(pub u16);
 // A row's place among all rows: the X rows from 0 on, then the Z rows.
 pub struct Row(pub u16);
 
+// Rows that follow one another: the first and how many they are.
+pub struct Rows {
+    pub first: Row,
+    pub count: u16,
+}
+
 // A row's number within its kind, as records give it: the X rows and the Z rows both count from 0.
 pub struct KindRow(pub u16);
 

@@ -68,7 +68,7 @@ module _ (z : Sizes) (budget limit : ℕ) (l : Lists) (readings : List ℕ) (tol
 -- Sizes and lists fit
 
 fits-so : (g : Given) (work : ℕ) (l : HalfLists) → g .n ≤ 1024 → g .count ≤ 512 → g .others ≤ 512 → g .first ≤ 512 → g .other ≤ 512 → g .budget ≤ 63
-    → 8192 ≤ work → g .n ≤ length (g .lost) → g .first + g .count ≤ length (g .lit) → LongHalf (g .n) l → fitting g work l ≡ true
+    → 10240 ≤ work → g .n ≤ length (g .lost) → g .first + g .count ≤ length (g .lit) → LongHalf (g .n) l → fitting g work l ≡ true
 unfolding fitting
 fits-so g work l n count others first other budget long on lights three =
     and-in (and-in (and-in (and-in (and-in (and-in (and-in (and-in (and-in (and-in (and-in

@@ -7,6 +7,7 @@ ghost use Rattle.records.specs.Lists.{held, sixOf, lentOf};
 ghost use Rattle.records.specs.Promise.{Promised};
 ghost use Rattle.decoding.specs.Decoding.{readingsOf, BothFit, Reports};
 use code::Row;
+use code::Rows;
 use decodable::Test;
 use decodable::lacking;
 use decodable::tested;
@@ -71,8 +72,14 @@ fn decode_halves(
     let n = sizes.n;
     let x = sizes.x;
     let z = sizes.z;
-    let x_first = Row(0);
-    let z_first = Row(x);
+    let x_rows = Rows {
+        first: Row(0),
+        count: x,
+    };
+    let z_rows = Rows {
+        first: Row(x),
+        count: z,
+    };
     let lit = readings(shot);
     let of_x = decode_half(
         n,
@@ -80,10 +87,8 @@ fn decode_halves(
         ends,
         shot,
         lit,
-        z_first,
-        z,
-        x_first,
-        x,
+        z_rows,
+        x_rows,
         budget,
         limit,
         work,
@@ -100,10 +105,8 @@ fn decode_halves(
         ends,
         shot,
         lit,
-        x_first,
-        x,
-        z_first,
-        z,
+        x_rows,
+        z_rows,
         budget,
         limit,
         work,

@@ -1,5 +1,5 @@
 -- The lists that a half's decode leaves show the machine's outcome. Assumes nothing.
-use mathlib.Core.Path.{_≡_, refl, sym, ap, ap₂, _∙_, subst}
+use mathlib.Core.Path.{_≡_, refl, sym, ap, ap₂, _∙_, fun-ext, subst}
 use mathlib.Core.Bool.{Bool, true, false, not, _&&_, cond}
 use mathlib.Core.Logic.{⊎-elim}
 use mathlib.Core.List.{List}
@@ -8,23 +8,28 @@ use native.Mathlib.Nat.{div-one, eq-zero-or-pos}
 use native.Mathlib.Omega.{arith}
 use lib.Dec.{eqb, leb}
 use lib.ListN.{length, getD}
-use borrow.Author.Tests.{lt-ltb, le-leb, leb-true}
+use borrow.Author.Tests.{lt-ltb, le-ltb, le-leb, leb-true}
+use Rattle.binary.specs.Meaning.{All}
 use Rattle.binary.specs.Words.{bit}
 use Rattle.binary.proofs.Bits.{bit as cases, never, and-out, and-in}
-use Rattle.binary.proofs.WordBits.{bit-zero}
+use Rattle.binary.proofs.WordBits.{bit-zero, order}
+use Rattle.code.specs.Lists.{rowsFrom}
+use Rattle.code.specs.Tests.{Ascending}
+use Rattle.kept.specs.Rows.{RowLists}
+use Rattle.kept.specs.Kept.{Kept}
 use Rattle.machine.specs.declared.Word.{Word}
 use Rattle.machine.specs.declared.HalfReport.{HalfReport}
 use Rattle.halves.specs.declared.HalfAnswer.the-variants.{Refused, Decoded}
 use Rattle.machine.specs.Words.{finished?}
-use Rattle.machine.specs.Machine.{Form, End, decoded}
+use Rattle.machine.specs.Machine.{Form, End, isOpen, decoded}
 use Rattle.machine.specs.Fillings.{filling}
 use Rattle.machine.specs.Report.{none?, shown}
 use Rattle.machine.specs.Lists.{view, HalfLists, digit, Shows, Past}
-use Rattle.halves.specs.Decode.{Given, fitting, Decodes}
+use Rattle.halves.specs.Decode.{Given, ownRows, fitting, Decodes}
 use Rattle.turns.specs.declared.RunAnswer.{RunAnswer}
 use Rattle.turns.specs.declared.RunAnswer.the-variants.{Over}
 use Rattle.turns.specs.declared.RunAnswer.the-variants as turns-answer
-use Rattle.turns.specs.Turns.{RowLists, Qubitwise, Kept}
+use Rattle.turns.specs.Turns.{Working, Stays}
 use Rattle.turns.specs.Runs.{Ran, Runs}
 use Rattle.turns.specs.Runs as runs
 use Rattle.halves.specs.Starts.{halfIn, Started, Finished, fits?, HalfDone}
@@ -43,16 +48,16 @@ digit-constant x = ⊎-elim (λ (e : x % 2 ≡ 0). e ∙ ap digit (sym (low e)))
     high e = ap (λ (y : ℕ). eqb (y % 2) 1) (div-one x) ∙ ap (λ (y : ℕ). eqb y 1) e
 
 -- What the turns and the end leave past n is as it was.
-past-kept : (n : ℕ) (marks forms correction : List ℕ) (mid : Qubitwise) (w : Word) (new : HalfLists) → Kept n (record { marks = marks; forms = forms }) mid
+past-stays : (n : ℕ) (marks forms correction work : List ℕ) (mid : Working) (w : Word) (new : HalfLists) → Stays n (record { marks = marks; forms = forms; work = work }) mid
     → Finished n w (record { marks = mid .marks; forms = mid .forms; correction = correction }) new
     → Past n (record { marks = marks; forms = forms; correction = correction }) new
-past-kept n marks forms correction mid w new k f = record {
+past-stays n marks forms correction work mid w new k f = record {
   marks = λ q i. f .marks .rest q i ∙ k .marks-rest q i;
   forms = λ q i. f .forms .rest q i ∙ k .forms-rest q i;
   correction = λ q i. f .correction .rest q i;
 }
 
-module _ (n : ℕ) (mid : Qubitwise) (correction : List ℕ) (new : HalfLists) (r : HalfReport) (e : End) (v : Ran n mid r e)
+module _ (n : ℕ) (c : RowLists) (mid : Working) (correction : List ℕ) (new : HalfLists) (r : HalfReport) (e : End) (v : Ran n c mid r e)
     (f : Finished n (r .word) (record { marks = mid .marks; forms = mid .forms; correction = correction }) new) where
   word : r .word ≡ e .word
   word = ap (λ (h : HalfReport). h .word) (v .report)
@@ -82,54 +87,72 @@ module _ (n : ℕ) (mid : Qubitwise) (correction : List ℕ) (new : HalfLists) (
       ∙ ap digit (form-at (not-none (e .word) j) q i 0 ∙ sym (value-off (e .state .forms .live) (e .state .forms .form q)))))
       (λ j. rw j)
 
+  -- At any end but none the marks stay, and with them what is kept of the rows.
+  marks-stay : none? (e .word) ≡ false → view n (mid .marks) ≡ view n (new .marks)
+  marks-stay j = fun-ext λ q. ⊎-elim (inside q) (λ (i : n ≤ q). rw (le-ltb q n i)) (order q n)
+    where
+      inside : (q : ℕ) → q < n → view n (mid .marks) q ≡ view n (new .marks) q
+      inside q i = rw (lt-ltb q n i) (sym (f .marks .first q i ∙ rw (word, j)))
+
+  pub ended-kept : none? (e .word) ≡ false → Kept (isOpen (view n (new .marks))) c (mid .work)
+  ended-kept j = subst (λ (m : ℕ → ℕ). Kept (isOpen m) c (mid .work)) (marks-stay j) (v .kept j)
+
   pub ended-shows : (old : HalfLists) → Past n old new → Shows n (shown n e) old new
   unfolding shown
   ended-shows old past = record { marks = marks-shown; forms = forms-shown; correction = flips-shown; past = past }
 
-pub half-done : (n : ℕ) (c : RowLists) (lost : List ℕ) (other others budget limit : ℕ) (marks marks₁ forms correction work work′ : List ℕ) (mid : Qubitwise) (new : HalfLists)
+pub half-done : (n : ℕ) (c : RowLists) (lost : List ℕ) (other others budget limit : ℕ) (marks marks₁ forms correction work : List ℕ) (mid : Working) (new : HalfLists)
     (a : RunAnswer) (r : HalfReport) → Started n (c .flat) (c .ends) lost other others marks marks₁
-    → Runs n c budget limit work work′ (record { marks = marks₁; forms = forms }) mid a → runs.fitting n c budget work (record { marks = marks₁; forms = forms }) ≡ true
+    → Runs n c budget limit (record { marks = marks₁; forms = forms; work = work }) mid a → runs.fitting n c budget (record { marks = marks₁; forms = forms; work = work }) ≡ true
     → a ≡ Over r → Finished n (r .word) (record { marks = mid .marks; forms = mid .forms; correction = correction }) new
-    → HalfDone n c lost other others budget limit (record { marks = marks; forms = forms; correction = correction }) new r
+    → HalfDone n c lost other others budget limit (mid .work) (record { marks = marks; forms = forms; correction = correction }) new r
 unfolding shown
-half-done n c lost other others budget limit marks marks₁ forms correction work work′ mid new a r begun v fits told f =
+half-done n c lost other others budget limit marks marks₁ forms correction work mid new a r begun v fits told f =
     record {
       lengths = record {
-        marks = f .marks .long ∙ v .kept .marks-long ∙ begun .long;
-        forms = f .forms .long ∙ v .kept .forms-long;
+        marks = f .marks .long ∙ v .stays .marks-long ∙ begun .long;
+        forms = f .forms .long ∙ v .stays .forms-long;
         correction = f .correction .long;
       };
       past = past;
       shows = λ own good.
-          let h = halfIn n c lost other others in
-          let o = v .over fits in
-          let same : o .0 ≡ r = cc in
-          let w = subst (λ (x : HalfReport). Ran n mid x (decoded h budget limit)) same
-          (subst (Ran n mid (o .0)) (sym (decoded-is n c lost other others budget limit marks marks₁ begun good)) (o .2 own)) in
-          (w .report, ended-shows n mid correction new r (decoded h budget limit) w f (record { marks = marks; forms = forms; correction = correction }) past);
+          let w = ran own good in
+          (w .report, ended-shows n c mid correction new r e w f (record { marks = marks; forms = forms; correction = correction }) past);
+      kept = λ own good. ended-kept n c mid correction new r e (ran own good) f;
     }
   where
-    kept : Kept n (record { marks = marks; forms = forms }) mid
-    kept = record {
-      marks-long = v .kept .marks-long ∙ begun .long;
-      forms-long = v .kept .forms-long;
-      marks-rest = λ q i. v .kept .marks-rest q i ∙ begun .rest q i;
-      forms-rest = v .kept .forms-rest;
+    e : End
+    e = decoded (halfIn n c lost other others) budget limit
+
+    ran : All (Ascending n) (rowsFrom (c .flat) (c .ends) (c .first) (c .count)) → All (Ascending n) (rowsFrom (c .flat) (c .ends) other others) → Ran n c mid r e
+    ran own good =
+        let o = v .over fits in
+        let same : o .0 ≡ r = cc in
+        subst (λ (x : HalfReport). Ran n c mid x e) same
+        (subst (Ran n c mid (o .0)) (sym (decoded-is n c lost other others budget limit marks marks₁ begun good)) (o .2 own))
+
+    stays : Stays n (record { marks = marks; forms = forms; work = work }) mid
+    stays = record {
+      marks-long = v .stays .marks-long ∙ begun .long;
+      forms-long = v .stays .forms-long;
+      work-long = v .stays .work-long;
+      marks-rest = λ q i. v .stays .marks-rest q i ∙ begun .rest q i;
+      forms-rest = v .stays .forms-rest;
     }
 
     past : Past n (record { marks = marks; forms = forms; correction = correction }) new
-    past = past-kept n marks forms correction mid (r .word) new kept f
+    past = past-stays n marks forms correction work mid (r .word) new stays f
 
 -- Sizes and lists that fit the decode fit its turns.
-pub turns-fit : (n lit first count budget work marks forms : ℕ) → n ≤ 1024 → count ≤ 512 → first ≤ 512 → budget ≤ 63 → 8192 ≤ work → first + count ≤ lit
+pub turns-fit : (n lit first count budget work marks forms : ℕ) → n ≤ 1024 → count ≤ 512 → first ≤ 512 → budget ≤ 63 → 10240 ≤ work → first + count ≤ lit
     → n ≤ marks → n ≤ forms → runs.fits? n lit first count budget work marks forms ≡ true
 unfolding runs.fits?
 turns-fit n lit first count budget work marks forms a b d e f g h i =
     and-in (and-in (and-in (and-in (and-in (and-in (and-in (le-leb _ _ a) (le-leb _ _ b)) (le-leb _ _ d)) (le-leb _ _ e)) (le-leb _ _ f)) (le-leb _ _ g)) (le-leb _ _ h)) (le-leb _ _ i)
 
-pub turns-made : {C : Type 0} (n : ℕ) (c : RowLists) (budget limit : ℕ) (work work′ : List ℕ) (old new : Qubitwise) (a : RunAnswer) → Runs n c budget limit work work′ old new a
-    → runs.fitting n c budget work old ≡ true → a ≡ turns-answer.Refused → C
-turns-made n c budget limit work work′ old new a v fits e = let o = v .over fits in let f = o .1 in let z : _≡_ {A = ℕ} 0 1 = cc in absurd (omega arith)
+pub turns-made : {C : Type 0} (n : ℕ) (c : RowLists) (budget limit : ℕ) (old new : Working) (a : RunAnswer) → Runs n c budget limit old new a
+    → runs.fitting n c budget old ≡ true → a ≡ turns-answer.Refused → C
+turns-made n c budget limit old new a v fits e = let o = v .over fits in let f = o .1 in let z : _≡_ {A = ℕ} 0 1 = cc in absurd (omega arith)
 
 ----------------------------------------------------------------------
 -- Sizes and lengths that fit
@@ -137,7 +160,7 @@ turns-made n c budget limit work work′ old new a v fits e = let o = v .over fi
 module _ (n lost lit first count other others budget work marks forms correction : ℕ) where
   -- What the test says, in the order of its parts.
   pub fits-out : fits? n lost lit first count other others budget work marks forms correction ≡ true
-      → ((n ≤ 1024) × (count ≤ 512) × (others ≤ 512) × (first ≤ 512) × (other ≤ 512) × (8192 ≤ work) × (budget ≤ 63))
+      → ((n ≤ 1024) × (count ≤ 512) × (others ≤ 512) × (first ≤ 512) × (other ≤ 512) × (10240 ≤ work) × (budget ≤ 63))
       × ((n ≤ lost) × (first + count ≤ lit) × (n ≤ marks) × (n ≤ forms) × (n ≤ correction))
   unfolding fits?
   fits-out t =
@@ -146,13 +169,13 @@ module _ (n lost lit first count other others budget work marks forms correction
       let c = and-out _ (leb n marks) (b .0) in
       let d = and-out _ (leb (first + count) lit) (c .0) in
       let e = and-out _ (leb n lost) (d .0) in
-      let f = and-out _ (leb 8192 work) (e .0) in
+      let f = and-out _ (leb 10240 work) (e .0) in
       let g = and-out _ (leb budget 63) (f .0) in
       let h = and-out _ (leb other 512) (g .0) in
       let i = and-out _ (leb first 512) (h .0) in
       let j = and-out _ (leb others 512) (i .0) in
       let k = and-out (leb n 1024) (leb count 512) (j .0) in (
-        (leb-true n 1024 (k .0), leb-true count 512 (k .1), leb-true others 512 (j .1), leb-true first 512 (i .1), leb-true other 512 (h .1), leb-true 8192 work (f .1), leb-true budget 63 (g .1)),
+        (leb-true n 1024 (k .0), leb-true count 512 (k .1), leb-true others 512 (j .1), leb-true first 512 (i .1), leb-true other 512 (h .1), leb-true 10240 work (f .1), leb-true budget 63 (g .1)),
         (leb-true n lost (e .1), leb-true (first + count) lit (d .1), leb-true n marks (c .1), leb-true n forms (b .1), leb-true n correction (a .1)),
       )
 
@@ -175,10 +198,11 @@ module _ (g : Given) (work : List ℕ) (old : HalfLists) (told : Bool)
         refused = λ i. (refl, refl, refl);
         answered = λ i. never i (fitting-is g (length work) old ∙ sym tells ∙ e);
         decoded = λ i. never i (fitting-is g (length work) old ∙ sym tells ∙ e);
+        kept = λ i. never i (fitting-is g (length work) old ∙ sym tells ∙ e);
       }
 
   pub decodes-done : told ≡ true → (work′ : List ℕ) (new : HalfLists) (r : HalfReport) → length work′ ≡ length work
-      → HalfDone (g .n) (record { flat = g .flat; ends = g .ends; lit = g .lit; first = g .first; count = g .count }) (g .lost) (g .other) (g .others) (g .budget) (g .limit) old new r
+      → HalfDone (g .n) (ownRows g) (g .lost) (g .other) (g .others) (g .budget) (g .limit) work′ old new r
       → Decodes g work work′ old new (Decoded r)
   decodes-done e work′ new r long v =
       record {
@@ -188,4 +212,5 @@ module _ (g : Given) (work : List ℕ) (old : HalfLists) (told : Bool)
         refused = λ i. never (fitting-is g (length work) old ∙ sym tells ∙ e) i;
         answered = λ i f. let z : _≡_ {A = ℕ} 0 1 = cc in omega arith;
         decoded = λ i own good. let z = v .shows own good in (ap Decoded (z .0), z .1);
+        kept = λ i own good ended. v .kept own good ended;
       }

@@ -13,8 +13,7 @@ use Rattle.binary.specs.Words.{listed}
 use Rattle.code.specs.Lists.{rowAt, rowsFrom}
 use Rattle.code.specs.Tests.{Ascending}
 use Rattle.machine.specs.Machine.{isOpen, closed?, takeUpAll, blank, stage, startMark, start, degree, most, run, keepIf, readings, checks, decoded}
-use Rattle.turns.specs.Lists.{checksFrom}
-use Rattle.turns.specs.Turns.{RowLists, rowChecks}
+use Rattle.kept.specs.Rows.{RowLists, checksFrom, rowChecks}
 use Rattle.turns.specs.Runs.{endOf}
 use Rattle.halves.specs.Starts.{Started, halfIn}
 

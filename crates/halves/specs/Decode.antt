@@ -1,5 +1,6 @@
 -- What the decode of one half promises (document 01, "Lists lent to a decode").
 --   Given       what a half is decoded from
+--   ownRows     the half's own rows in its lists, with their readings
 --   fitting     whether sizes, budget and lists are such that the half is decoded
 --   Decodes     the promise
 use mathlib.Core.Path.{_≡_}
@@ -13,8 +14,11 @@ use Rattle.code.specs.Lists.{rowsFrom}
 use Rattle.code.specs.Tests.{Ascending}
 use Rattle.halves.specs.declared.HalfAnswer.{HalfAnswer}
 use Rattle.halves.specs.declared.HalfAnswer.the-variants.{Refused, Decoded}
-use Rattle.machine.specs.Report.{Shown, outcome}
-use Rattle.machine.specs.Lists.{HalfLists, Past, Shows, SameLengths}
+use Rattle.kept.specs.Rows.{RowLists}
+use Rattle.kept.specs.Kept.{Kept}
+use Rattle.machine.specs.Machine.{isOpen}
+use Rattle.machine.specs.Report.{Shown, none?, outcome}
+use Rattle.machine.specs.Lists.{view, HalfLists, Past, Shows, SameLengths}
 use Rattle.halves.specs.Lists.{halfOf}
 
 -- What a half is decoded from: n, the lists of code and shot, its own rows and the other kind's (a first row and a count each), the budget
@@ -32,15 +36,18 @@ pub record Given : Type 0 where
   pub budget : ℕ
   pub limit : ℕ
 
+abbrev pub ownRows : Given → RowLists
+ownRows g = record { flat = g .flat; ends = g .ends; lit = g .lit; first = g .first; count = g .count }
+
 -- The sizes are document 01's, and the lists are long enough.
 unfoldable pub fitting : Given → ℕ → HalfLists → Bool
 fitting g work l =
     leb (g .n) 1024 && leb (g .count) 512 && leb (g .others) 512 && leb (g .first) 512 && leb (g .other) 512 && leb (g .budget) 63
-    && leb 8192 work && leb (g .n) (length (g .lost)) && leb (g .first + g .count) (length (g .lit))
+    && leb 10240 work && leb (g .n) (length (g .lost)) && leb (g .first + g .count) (length (g .lit))
     && leb (g .n) (length (l .marks)) && leb (g .n) (length (l .forms)) && leb (g .n) (length (l .correction))
 
 -- For every input the lists keep their lengths and what is past n. Where sizes and lists fit, the half is decoded: of rows that are strictly ascending and below n, the answer and the lists are what the machine
--- makes of code, shot, budget and limit. Otherwise nothing is written. The work list keeps its length and may hold anything.
+-- makes of code, shot, budget and limit, and at any end but none the work list holds what is kept of the half's own rows, a fresh count over the marks (document 02, request b). Otherwise nothing is written.
 pub record Decodes (g : Given) (work work′ : List ℕ) (old new : HalfLists) (r : HalfAnswer) : Type 0 where
   pub lengths : SameLengths old new
   pub past : Past (g .n) old new
@@ -52,3 +59,8 @@ pub record Decodes (g : Given) (work work′ : List ℕ) (old new : HalfLists) (
       → All (Ascending (g .n)) (rowsFrom (g .flat) (g .ends) (g .other) (g .others))
       → let s = outcome (halfOf (g .n) (g .flat) (g .ends) (g .lost) (g .lit) (g .first) (g .count) (g .other) (g .others)) (g .budget) (g .limit) in
       (r ≡ Decoded (s .report)) × Shows (g .n) s old new
+  pub kept : fitting g (length work) old ≡ true
+      → All (Ascending (g .n)) (rowsFrom (g .flat) (g .ends) (g .first) (g .count))
+      → All (Ascending (g .n)) (rowsFrom (g .flat) (g .ends) (g .other) (g .others))
+      → none? (outcome (halfOf (g .n) (g .flat) (g .ends) (g .lost) (g .lit) (g .first) (g .count) (g .other) (g .others)) (g .budget) (g .limit) .report .word) ≡ false
+      → Kept (isOpen (view (g .n) (new .marks))) (ownRows g) work′

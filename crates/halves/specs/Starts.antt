@@ -6,7 +6,7 @@
 --   fits?       whether sizes and lengths are such that the half is decoded
 --   HalfDone    the whole decode of a half
 use mathlib.Core.Path.{_≡_}
-use mathlib.Core.Bool.{Bool, _&&_, cond}
+use mathlib.Core.Bool.{Bool, false, _&&_, cond}
 use mathlib.Core.List.{List}
 use Prim.Native.Nat.{ℕ, _+_, _%_, _≤_}
 use lib.Dec.{leb}
@@ -16,13 +16,14 @@ use Rattle.binary.specs.Words.{listed}
 use Rattle.packing.specs.Packed.{wordsFor, Packed}
 use Rattle.code.specs.Lists.{rowsFrom}
 use Rattle.code.specs.Tests.{Ascending}
+use Rattle.kept.specs.Rows.{RowLists}
+use Rattle.kept.specs.Kept.{Kept}
 use Rattle.machine.specs.declared.Word.{Word}
 use Rattle.machine.specs.declared.HalfReport.{HalfReport}
-use Rattle.machine.specs.Machine.{startMark, Half}
+use Rattle.machine.specs.Machine.{isOpen, startMark, Half}
 use Rattle.machine.specs.Words.{finished?}
 use Rattle.machine.specs.Report.{none?, outcome}
 use Rattle.machine.specs.Lists.{view, HalfLists, SameLengths, Past, Shows}
-use Rattle.turns.specs.Turns.{RowLists}
 use Rattle.halves.specs.Lists.{halfOf}
 use Rattle.halves.specs.Fills.{Filled}
 
@@ -57,10 +58,13 @@ pub record Finished (n : ℕ) (word : Word) (old new : HalfLists) : Type 0 where
 unfoldable pub fits? : ℕ → ℕ → ℕ → ℕ → ℕ → ℕ → ℕ → ℕ → ℕ → ℕ → ℕ → ℕ → Bool
 fits? n lost lit first count other others budget work marks forms correction =
     leb n 1024 && leb count 512 && leb others 512 && leb first 512 && leb other 512 && leb budget 63
-    && leb 8192 work && leb n lost && leb (first + count) lit && leb n marks && leb n forms && leb n correction
+    && leb 10240 work && leb n lost && leb (first + count) lit && leb n marks && leb n forms && leb n correction
 
-pub record HalfDone (n : ℕ) (c : RowLists) (lost : List ℕ) (other others budget limit : ℕ) (old new : HalfLists) (r : HalfReport) : Type 0 where
+-- With what the work list holds in the end.
+pub record HalfDone (n : ℕ) (c : RowLists) (lost : List ℕ) (other others budget limit : ℕ) (work : List ℕ) (old new : HalfLists) (r : HalfReport) : Type 0 where
   pub lengths : SameLengths old new
   pub past : Past n old new
   pub shows : All (Ascending n) (rowsFrom (c .flat) (c .ends) (c .first) (c .count)) → All (Ascending n) (rowsFrom (c .flat) (c .ends) other others)
       → let s = outcome (halfIn n c lost other others) budget limit in (r ≡ s .report) × Shows n s old new
+  pub kept : All (Ascending n) (rowsFrom (c .flat) (c .ends) (c .first) (c .count)) → All (Ascending n) (rowsFrom (c .flat) (c .ends) other others)
+      → none? (outcome (halfIn n c lost other others) budget limit .report .word) ≡ false → Kept (isOpen (view n (new .marks))) c work

@@ -6,6 +6,7 @@ ghost use Rattle.machine.specs.Report.{none?};
 ghost use Rattle.halves.specs.Starts.{PackedFrom, Started, Finished, fits?, HalfDone};
 use crate::fills;
 use code::Row;
+use code::Rows;
 use machine::HalfReport;
 use machine::Word;
 use turns::RunAnswer;
@@ -17,15 +18,17 @@ fn index(x: u16) -> usize
     x as usize
 }
 
-// Packs so many rows from row `other` on into the work list, from its start.
-fn pack_rows(n: u16, flat: &[u16], ends: &[u16], other: u16, others: u16, work: &mut [u64])
-    requires { ⌜ (n ≤ 1024) × (others ≤ 512) × (other ≤ 512) × (8192 ≤ length (now work)) ⌝ }
-    ensures { λ _. ⌜ PackedFrom n (now (flat .entry)) (now (ends .entry)) other others (now (work .entry)) (now (work .exit)) ⌝ }
+// Packs the rows into the work list, from its start.
+fn pack_rows(n: u16, flat: &[u16], ends: &[u16], rows: Rows, work: &mut [u64])
+    requires { ⌜ (n ≤ 1024) × (rows .count ≤ 512) × (rows .first .0 ≤ 512) × (8192 ≤ length (now work)) ⌝ }
+    ensures { λ _. ⌜ PackedFrom n (now (flat .entry)) (now (ends .entry)) (rows .first .0) (rows .count) (now (work .entry)) (now (work .exit)) ⌝ }
 {
     let words = packing::words_for(n);
+    let first = rows.first;
+    let count = rows.count;
     let mut i: u16 = 0;
-    while i < others {
-        let row = code::row_at(flat, ends, Row(other + i));
+    while i < count {
+        let row = code::row_at(flat, ends, Row(first.0 + i));
         packing::put_row(work, words, index(i), row);
         i += 1;
     }
@@ -37,17 +40,16 @@ fn start(
     flat: &[u16],
     ends: &[u16],
     lost: &[u8],
-    other: u16,
-    others: u16,
+    others: Rows,
     work: &mut [u64],
     marks: &mut [u8],
 )
-    requires { ⌜ (n ≤ 1024) × (others ≤ 512) × (other ≤ 512) × (8192 ≤ length (now work)) × (n ≤ length (now lost)) × (n ≤ length (now marks)) ⌝ }
-    ensures { λ _. ⌜ (length (now (work .exit)) ≡ length (now (work .entry))) × Started n (now (flat .entry)) (now (ends .entry)) (now (lost .entry)) other others (now (marks .entry)) (now (marks .exit)) ⌝ }
+    requires { ⌜ (n ≤ 1024) × (others .count ≤ 512) × (others .first .0 ≤ 512) × (8192 ≤ length (now work)) × (n ≤ length (now lost)) × (n ≤ length (now marks)) ⌝ }
+    ensures { λ _. ⌜ (length (now (work .exit)) ≡ length (now (work .entry))) × Started n (now (flat .entry)) (now (ends .entry)) (now (lost .entry)) (others .first .0) (others .count) (now (marks .entry)) (now (marks .exit)) ⌝ }
 {
     fills::start_marks(n as usize, lost, marks);
-    pack_rows(n, flat, ends, other, others, work);
-    search::mark_fixed(n, others as usize, lost, work, marks);
+    pack_rows(n, flat, ends, others, work);
+    search::mark_fixed(n, others.count as usize, lost, work, marks);
 }
 
 // Whether the half ended in none.
@@ -84,27 +86,27 @@ pub fn fits(
     n: u16,
     lost: &[u8],
     lit: &[u8],
-    first: u16,
-    count: u16,
-    other: u16,
-    others: u16,
+    own: Rows,
+    others: Rows,
     budget: u8,
     work: &[u64],
     marks: &[u8],
     forms: &[u64],
     correction: &[u8],
 ) -> bool
-    ensures { λ r. ⌜ r ≡ fits? n (length (now (lost .entry))) (length (now (lit .entry))) first count other others budget (length (now (work .entry))) (length (now (marks .entry))) (length (now (forms .entry))) (length (now (correction .entry))) ⌝ }
+    ensures { λ r. ⌜ r ≡ fits? n (length (now (lost .entry))) (length (now (lit .entry))) (own .first .0) (own .count) (others .first .0) (others .count) budget (length (now (work .entry))) (length (now (marks .entry))) (length (now (forms .entry))) (length (now (correction .entry))) ⌝ }
 {
     let size = n as usize;
-    let last = first as usize + count as usize;
+    let first = own.first;
+    let other = others.first;
+    let last = first.0 as usize + own.count as usize;
     let small = (n <= 1024)
-        & (count <= 512)
-        & (others <= 512)
-        & (first <= 512)
-        & (other <= 512)
+        & (own.count <= 512)
+        & (others.count <= 512)
+        & (first.0 <= 512)
+        & (other.0 <= 512)
         & (budget <= 63);
-    let shot = small & (8192 <= work.len()) & (size <= lost.len()) & (last <= lit.len());
+    let shot = small & (10240 <= work.len()) & (size <= lost.len()) & (last <= lit.len());
     shot & (size <= marks.len()) & (size <= forms.len()) & (size <= correction.len())
 }
 
@@ -126,10 +128,8 @@ pub fn decode(
     ends: &[u16],
     lost: &[u8],
     lit: &[u8],
-    first: u16,
-    count: u16,
-    other: u16,
-    others: u16,
+    own: Rows,
+    others: Rows,
     budget: u8,
     limit: u16,
     work: &mut [u64],
@@ -137,24 +137,12 @@ pub fn decode(
     forms: &mut [u64],
     correction: &mut [u8],
 ) -> HalfReport
-    requires { ⌜ (n ≤ 1024) × (count ≤ 512) × (others ≤ 512) × (first ≤ 512) × (other ≤ 512) × (8192 ≤ length (now work)) × (budget ≤ 63) ⌝ }
-    requires { ⌜ (n ≤ length (now lost)) × (first + count ≤ length (now lit)) × (n ≤ length (now marks)) × (n ≤ length (now forms)) × (n ≤ length (now correction)) ⌝ }
-    ensures { λ r. ⌜ (length (now (work .exit)) ≡ length (now (work .entry))) × HalfDone n (record { flat = now (flat .entry); ends = now (ends .entry); lit = now (lit .entry); first = first; count = count }) (now (lost .entry)) other others budget limit (record { marks = now (marks .entry); forms = now (forms .entry); correction = now (correction .entry) }) (record { marks = now (marks .exit); forms = now (forms .exit); correction = now (correction .exit) }) r ⌝ }
+    requires { ⌜ (n ≤ 1024) × (own .count ≤ 512) × (others .count ≤ 512) × (own .first .0 ≤ 512) × (others .first .0 ≤ 512) × (10240 ≤ length (now work)) × (budget ≤ 63) ⌝ }
+    requires { ⌜ (n ≤ length (now lost)) × (own .first .0 + own .count ≤ length (now lit)) × (n ≤ length (now marks)) × (n ≤ length (now forms)) × (n ≤ length (now correction)) ⌝ }
+    ensures { λ r. ⌜ (length (now (work .exit)) ≡ length (now (work .entry))) × HalfDone n (record { flat = now (flat .entry); ends = now (ends .entry); lit = now (lit .entry); first = own .first .0; count = own .count }) (now (lost .entry)) (others .first .0) (others .count) budget limit (now (work .exit)) (record { marks = now (marks .entry); forms = now (forms .entry); correction = now (correction .entry) }) (record { marks = now (marks .exit); forms = now (forms .exit); correction = now (correction .exit) }) r ⌝ }
 {
-    start(n, flat, ends, lost, other, others, work, marks);
-    let ran = turns::run_turns(
-        n,
-        flat,
-        ends,
-        lit,
-        Row(first),
-        count,
-        budget,
-        limit,
-        work,
-        marks,
-        forms,
-    );
+    start(n, flat, ends, lost, others, work, marks);
+    let ran = turns::run_turns(n, flat, ends, lit, own, budget, limit, work, marks, forms);
     let RunAnswer::Over(told) = ran else {
         return nothing();
     };

@@ -4,7 +4,7 @@ ghost use Rattle.halves.specs.Decode.{Decodes};
 mod decode;
 mod fills;
 
-use code::Row;
+use code::Rows;
 use machine::HalfReport;
 
 // The answer to the decode of a half.
@@ -13,17 +13,15 @@ pub enum HalfAnswer {
     Decoded(HalfReport),
 }
 
-// The decode of one half: its own rows are `count` from row `first` on, the other kind's `others` from row `other` on.
+// The decode of one half, of its own rows and the other kind's. The work list is left with what is kept of its own rows.
 pub fn decode_half(
     n: u16,
     flat: &[u16],
     ends: &[u16],
     lost: &[u8],
     lit: &[u8],
-    first: Row,
-    count: u16,
-    other: Row,
-    others: u16,
+    own: Rows,
+    others: Rows,
     budget: u8,
     limit: u16,
     work: &mut [u64],
@@ -31,17 +29,13 @@ pub fn decode_half(
     forms: &mut [u64],
     correction: &mut [u8],
 ) -> HalfAnswer
-    ensures { λ r. ⌜ Decodes (record { n = n; flat = now (flat .entry); ends = now (ends .entry); lost = now (lost .entry); lit = now (lit .entry); first = first .0; count = count; other = other .0; others = others; budget = budget; limit = limit }) (now (work .entry)) (now (work .exit)) (record { marks = now (marks .entry); forms = now (forms .entry); correction = now (correction .entry) }) (record { marks = now (marks .exit); forms = now (forms .exit); correction = now (correction .exit) }) r ⌝ }
+    ensures { λ r. ⌜ Decodes (record { n = n; flat = now (flat .entry); ends = now (ends .entry); lost = now (lost .entry); lit = now (lit .entry); first = own .first .0; count = own .count; other = others .first .0; others = others .count; budget = budget; limit = limit }) (now (work .entry)) (now (work .exit)) (record { marks = now (marks .entry); forms = now (forms .entry); correction = now (correction .entry) }) (record { marks = now (marks .exit); forms = now (forms .exit); correction = now (correction .exit) }) r ⌝ }
 {
-    let own = first.0;
-    let kind = other.0;
     if !decode::fits(
         n,
         lost,
         lit,
         own,
-        count,
-        kind,
         others,
         budget,
         work,
@@ -58,8 +52,6 @@ pub fn decode_half(
         lost,
         lit,
         own,
-        count,
-        kind,
         others,
         budget,
         limit,

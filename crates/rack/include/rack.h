@@ -27,7 +27,7 @@ extern "C" {
 /* ---- Numbers ---- */
 
 /* The version of records, lists and structs. */
-#define RACK_VERSION 2
+#define RACK_VERSION 3
 
 /* The kind of a record, its first byte. A row's is this and as many more as it has qubits. */
 enum rack_kind {
@@ -57,7 +57,7 @@ enum rack_least {
     RACK_LEAST_FLAT = 16384,
     RACK_LEAST_ENDS = 1024,
     RACK_LEAST_SHOT = 2048,
-    RACK_LEAST_WORK = 8192,
+    RACK_LEAST_WORK = 10240,
     RACK_LEAST_MARKS = 1024,
     RACK_LEAST_FORMS = 1024,
     RACK_LEAST_CORRECTION = 1024
@@ -262,7 +262,7 @@ static inline struct rack_record rack_decode(size_t budget, size_t limit) {
 
 /* ---- A rack with lists that are always long enough ---- */
 
-/* 120 kB: static or from the heap. */
+/* 140 kB: static or from the heap. */
 struct rack {
     uint64_t work[RACK_LEAST_WORK], x_forms[RACK_LEAST_FORMS], z_forms[RACK_LEAST_FORMS];
     uint16_t flat[RACK_LEAST_FLAT], ends[RACK_LEAST_ENDS];

@@ -44,7 +44,7 @@ pub record LongLists (l : Lists) (size : ℕ) : Type 0 where
   pub flat : 16384 ≤ length (l .flat)
   pub ends : 1024 ≤ length (l .ends)
   pub shot : 2048 ≤ length (l .shot)
-  pub work : 8192 ≤ size
+  pub work : 10240 ≤ size
 
 pub long-lists : (l : Lists) (work : ℕ) → shortLists l work ≡ false → LongLists l work
 unfolding shortLists
@@ -52,7 +52,7 @@ long-lists l work e =
     let flat = ltb (length (l .flat)) 16384 in
     let ends = ltb (length (l .ends)) 1024 in
     let shot = ltb (length (l .shot)) 2048 in
-    let a = neither (flat || ends || shot) (ltb work 8192) e in
+    let a = neither (flat || ends || shot) (ltb work 10240) e in
     let b = neither (flat || ends) shot (a .0) in
     let d = neither flat ends (b .0) in
     record { flat = ltb-false _ _ (d .0); ends = ltb-false _ _ (d .1); shot = ltb-false _ _ (b .1); work = ltb-false _ _ (a .1) }

@@ -55,9 +55,11 @@ lentOf lists work six = record { lists = lists; work = work; six = six }
 ----------------------------------------------------------------------
 -- Least lengths
 
--- 512 + 512 rows of up to 16 qubits, their ends, 1,024 qubits and as many rows, and 512 packed rows of 16 words.
+-- 512 + 512 rows of up to 16 qubits, their ends, 1,024 qubits and as many rows. The first 8,192 elements of the work list are 512 packed rows of 16 words,
+-- afterwards 8 words for the rows on each of 1,024 qubits; behind them are the dangling rows of a half, how many they are, of each of 512 rows the number
+-- of its open qubits, and the number of rows on each qubit (docs/LISTS.md).
 unfoldable pub shortLists : Lists → ℕ → Bool
-shortLists l work = ltb (length (l .flat)) 16384 || ltb (length (l .ends)) 1024 || ltb (length (l .shot)) 2048 || ltb work 8192
+shortLists l work = ltb (length (l .flat)) 16384 || ltb (length (l .ends)) 1024 || ltb (length (l .shot)) 2048 || ltb work 10240
 
 abbrev pub shortHalf : HalfLists → ℕ → Bool
 shortHalf l n = ltb (length (l .marks)) n || ltb (length (l .forms)) n || ltb (length (l .correction)) n

@@ -60,5 +60,5 @@ pub fn codeless(st: State) -> bool
 pub fn short_lists(flat: &[u16], ends: &[u16], shot: &[u8], work: &[u64]) -> bool
     ensures { λ r. ⌜ r ≡ shortLists (held (now (flat .entry)) (now (ends .entry)) (now (shot .entry))) (length (now (work .entry))) ⌝ }
 {
-    (flat.len() < 16384) | (ends.len() < 1024) | (shot.len() < 2048) | (work.len() < 8192)
+    (flat.len() < 16384) | (ends.len() < 1024) | (shot.len() < 2048) | (work.len() < 10240)
 }

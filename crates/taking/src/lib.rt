@@ -59,7 +59,7 @@ fn all_records(
     requires { ⌜ (p .put ≡ 0) × (p .noted ≡ 0) × Going ended p (now block) (now out) (now places) ⌝ }
     ensures { λ r. ⌜ Filled ended p (held (now (flat .entry)) (now (ends .entry)) (now (shot .entry))) (held (now (flat .exit)) (now (ends .exit)) (now (shot .exit))) (now (block .entry)) (now (out .exit)) (now (places .exit)) r ⌝ }
 {
-    let mut work = [0u64; 8192];
+    let mut work = [0u64; 10240];
     let mut x_marks = [0u8; 1024];
     let mut x_forms = [0u64; 1024];
     let mut x_correction = [0u8; 1024];

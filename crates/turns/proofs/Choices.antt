@@ -16,8 +16,9 @@ use Rattle.turns.specs.declared.Choice.{Choice}
 use Rattle.turns.specs.declared.Choice.the-variants.{NoQubit, Named}
 use Rattle.machine.specs.Machine.{isOpen, better, most, degree}
 use Rattle.machine.specs.Lists.{view}
-use Rattle.turns.specs.Lists.{choiceOf, checksFrom}
-use Rattle.turns.specs.Scans.{CountedRows, betterOf, NamedBelow}
+use Rattle.turns.specs.Lists.{choiceOf}
+use Rattle.kept.specs.Rows.{checksFrom}
+use Rattle.turns.specs.Scans.{degreeOf, CountedRows, betterOf, NamedBelow}
 
 -- The rule names a qubit below n.
 pub named-below : (deg : ℕ → ℕ) (n : ℕ) (o : Qubits) → NamedBelow (choiceOf (most deg n o)) n
@@ -42,9 +43,9 @@ below-more (Named p) m n h k = omega arith
 -- A turn of the search
 
 module _ (deg : List ℕ) (q : ℕ) where
-  choice-better : (r : Option ℕ) → choiceOf (better true (λ p. getD deg p 0) q r) ≡ betterOf deg (choiceOf r) (record { 0 = q })
+  choice-better : (r : Option ℕ) → choiceOf (better true (degreeOf deg) q r) ≡ betterOf deg (choiceOf r) (record { 0 = q })
   choice-better none = refl
-  choice-better (some p) = pick (ltb (getD deg p 0) (getD deg q 0))
+  choice-better (some p) = pick (ltb (degreeOf deg p) (degreeOf deg q))
     where
       pick : (b : Bool) → choiceOf (cond b (some q) (some p)) ≡ cond b (Named (record { 0 = q })) (Named (record { 0 = p }))
       pick true = refl
@@ -52,12 +53,12 @@ module _ (deg : List ℕ) (q : ℕ) where
 
   module _ (n : ℕ) (marks : List ℕ) (h : q < n) where
     pub choice-yes : getD marks q 0 ≡ 4
-        → choiceOf (most (λ p. getD deg p 0) (q + 1) (isOpen (view n marks)))
-        ≡ betterOf deg (choiceOf (most (λ p. getD deg p 0) q (isOpen (view n marks)))) (record { 0 = q })
-    choice-yes e = rw (add-one, lt-ltb q n h, eq-eqb (getD marks q 0) 4 e) (choice-better (most (λ p. getD deg p 0) q (isOpen (view n marks))))
+        → choiceOf (most (degreeOf deg) (q + 1) (isOpen (view n marks)))
+        ≡ betterOf deg (choiceOf (most (degreeOf deg) q (isOpen (view n marks)))) (record { 0 = q })
+    choice-yes e = rw (add-one, lt-ltb q n h, eq-eqb (getD marks q 0) 4 e) (choice-better (most (degreeOf deg) q (isOpen (view n marks))))
 
     pub choice-no : (getD marks q 0 ≡ 4 → ⊥)
-        → choiceOf (most (λ p. getD deg p 0) (q + 1) (isOpen (view n marks))) ≡ choiceOf (most (λ p. getD deg p 0) q (isOpen (view n marks)))
+        → choiceOf (most (degreeOf deg) (q + 1) (isOpen (view n marks))) ≡ choiceOf (most (degreeOf deg) q (isOpen (view n marks)))
     choice-no e = rw (add-one, lt-ltb q n h, ne-eqb (getD marks q 0) 4 e)
 
 ----------------------------------------------------------------------
@@ -84,6 +85,6 @@ most-same deg deg′ (suc n) o h =
 -- With the rows counted, the qubit named is the one on most rows.
 pub counted-rule : (n : ℕ) (flat ends lit : List ℕ) (first count : ℕ) (degrees degrees′ : List ℕ) (o : Qubits)
     → CountedRows n flat ends lit first count degrees degrees′ → All (Ascending n) (rowsFrom flat ends first count)
-    → most (λ q. getD degrees′ q 0) n o ≡ most (degree (checksFrom flat ends lit first count)) n o
+    → most (degreeOf degrees′) n o ≡ most (degree (checksFrom flat ends lit first count)) n o
 counted-rule n flat ends lit first count degrees degrees′ o r a =
-    most-same (λ q. getD degrees′ q 0) (degree (checksFrom flat ends lit first count)) n o (r .counted a)
+    most-same (degreeOf degrees′) (degree (checksFrom flat ends lit first count)) n o (r .counted a)

@@ -16,9 +16,9 @@ use Rattle.code.specs.Lists.{rowAt, rowsFrom}
 use Rattle.code.specs.Tests.{Ascending}
 use Rattle.code.proofs.Order.{Distinct, ascending-distinct}
 use Rattle.machine.specs.Machine.{keepIf, degree}
-use Rattle.turns.specs.Lists.{checkAt, read?, readRow, checksFrom}
+use Rattle.kept.specs.Rows.{checkAt, read?, readRow, checksFrom}
 use Rattle.lists.specs.Cleared.{Cleared}
-use Rattle.turns.specs.Scans.{times, timesIn, readRows, AddedRow, CountedRows}
+use Rattle.turns.specs.Scans.{times, timesIn, degreeOf, readRows, AddedRow, CountedRows}
 
 ----------------------------------------------------------------------
 -- Times and rows
@@ -81,40 +81,43 @@ times-small flat ends lit q h r (suc number) =
 -- A row added, qubit by qubit
 
 -- What is counted, with what is left of the row from place i on, is what it comes to.
-pub record Adding (n : ℕ) (row old degrees : List ℕ) (i : ℕ) : Type 0 where
-  pub long : length degrees ≡ length old
-  pub left : (q : ℕ) → q < n → getD degrees q 0 + times (drop i row) q ≡ getD old q 0 + times row q
+pub record Adding (n : ℕ) (row old work : List ℕ) (i : ℕ) : Type 0 where
+  pub long : length work ≡ length old
+  pub below : (k : ℕ) → k < 9216 → getD work k 0 ≡ getD old k 0
+  pub left : (q : ℕ) → q < n → degreeOf work q + times (drop i row) q ≡ degreeOf old q + times row q
 
 pub adding-start : (n : ℕ) (row old : List ℕ) → Adding n row old old 0
-adding-start n row old = record { long = refl; left = λ q h. refl }
+adding-start n row old = record { long = refl; below = λ k h. refl; left = λ q h. refl }
 
-module _ (n : ℕ) (row old degrees : List ℕ) (i : ℕ) (a : Adding n row old degrees i) where
-  pub adding-end : length row ≤ i → AddedRow n row old degrees
+module _ (n : ℕ) (row old work : List ℕ) (i : ℕ) (a : Adding n row old work i) where
+  pub adding-end : length row ≤ i → AddedRow n row old work
   adding-end h = record {
     long = a .long;
+    below = a .below;
     added = λ q k. let z = rw (drop-of-length-le row h) at (a .left q k) in omega arith;
   }
 
   module _ (at : ℕ) (is : at ≡ getD row i 0) (h : i < length row) where
-    turn : (q : ℕ) → q < n → getD degrees q 0 + count (eqb at q) (times (drop (i + 1) row) q) ≡ getD old q 0 + times row q
+    turn : (q : ℕ) → q < n → degreeOf work q + count (eqb at q) (times (drop (i + 1) row) q) ≡ degreeOf old q + times row q
     turn q k = rw (is, add-one i) (rw (drop-cons row i 0 h) at (a .left q k))
 
-    pub adding-room : at < n → getD degrees at 0 + 1 ≤ getD old at 0 + times row at
+    pub adding-room : at < n → degreeOf work at + 1 ≤ degreeOf old at + times row at
     adding-room k = let z = rw (eq-eqb at at refl) at (turn at k) in omega arith
 
-    pub adding-yes : at < n → at < length degrees → Adding n row old (set degrees at (getD degrees at 0 + 1)) (i + 1)
+    pub adding-yes : at < n → 9216 + at < length work → Adding n row old (set work (9216 + at) (degreeOf work at + 1)) (i + 1)
     adding-yes k l = record {
-      long = length-set degrees at (getD degrees at 0 + 1) ∙ a .long;
+      long = length-set work (9216 + at) (degreeOf work at + 1) ∙ a .long;
+      below = λ j m. getD-set-other work (9216 + at) j (degreeOf work at + 1) 0 (λ e. omega arith) ∙ a .below j m;
       left = λ q m. bit (eqb at q)
           (λ e. let z = rw e at (turn q m) in rw (same q (eqb-true at q e)) (omega arith))
-          (λ e. rw (getD-set-other degrees at q (getD degrees at 0 + 1) 0 (λ j. eqb-false at q e (sym j))) (rw e at (turn q m)));
+          (λ e. rw (getD-set-other work (9216 + at) (9216 + q) (degreeOf work at + 1) 0 (λ j. eqb-false at q e (omega arith))) (rw e at (turn q m)));
     }
       where
-        same : (q : ℕ) → at ≡ q → getD (set degrees at (getD degrees at 0 + 1)) q 0 ≡ getD degrees q 0 + 1
-        same q e = rw (← e) (getD-set-same degrees at (getD degrees at 0 + 1) 0 l)
+        same : (q : ℕ) → at ≡ q → degreeOf (set work (9216 + at) (degreeOf work at + 1)) q ≡ degreeOf work q + 1
+        same q e = rw (← e) (getD-set-same work (9216 + at) (degreeOf work at + 1) 0 l)
 
-    pub adding-no : n ≤ at → Adding n row old degrees (i + 1)
-    adding-no k = record { long = a .long; left = λ q m. rw (ne-eqb at q (λ j. absurd (omega arith))) at (turn q m) }
+    pub adding-no : n ≤ at → Adding n row old work (i + 1)
+    adding-no k = record { long = a .long; below = a .below; left = λ q m. rw (ne-eqb at q (λ j. absurd (omega arith))) at (turn q m) }
 
 ----------------------------------------------------------------------
 -- Rows counted, one by one
@@ -122,35 +125,40 @@ module _ (n : ℕ) (row old degrees : List ℕ) (i : ℕ) (a : Adding n row old 
 -- What is counted, with the rows that are left from row r on, is what it comes to.
 unfoldable pub Counting : ℕ → List ℕ → List ℕ → List ℕ → ℕ → ℕ → List ℕ → ℕ → Type 0
 Counting n flat ends lit first count degrees r =
-    (q : ℕ) → q < n → getD degrees q 0 + timesIn (readRows flat ends lit r (first + count - r)) q ≡ timesIn (readRows flat ends lit first count) q
+    (q : ℕ) → q < n → degreeOf degrees q + timesIn (readRows flat ends lit r (first + count - r)) q ≡ timesIn (readRows flat ends lit first count) q
 
 rows-turn : (flat ends lit : List ℕ) (r stop : ℕ) → r < stop
     → readRows flat ends lit r (stop - r) ≡ readRow flat ends lit r ∷ readRows flat ends lit (r + 1) (stop - (r + 1))
 rows-turn flat ends lit r stop h = let more : stop - r ≡ suc (stop - suc r) = omega arith in rw (add-one r, more)
 
 module _ (n : ℕ) (flat ends lit : List ℕ) (first count : ℕ) where
-  pub counting-start : (old degrees : List ℕ) → Cleared 0 n old degrees → Counting n flat ends lit first count degrees first
+  pub counting-start : (old degrees : List ℕ) → Cleared 9216 (9216 + n) old degrees → Counting n flat ends lit first count degrees first
   unfolding Counting
-  counting-start old degrees f q h = let all : first + count - first ≡ count = omega arith in rw (f .inside q zero-le h, all) (omega arith)
+  counting-start old degrees f q h = let all : first + count - first ≡ count = omega arith in rw (f .inside (9216 + q) (omega arith) (omega arith), all) (omega arith)
+
+  pub counting-at : (degrees : List ℕ) (r r′ : ℕ) → r ≡ r′ → Counting n flat ends lit first count degrees r → Counting n flat ends lit first count degrees r′
+  counting-at degrees r r′ e v = subst (Counting n flat ends lit first count degrees) e v
 
   module _ (degrees : List ℕ) (r : ℕ) (left : Counting n flat ends lit first count degrees r) where
-    pub counting-end : (old : List ℕ) → first + count ≤ r → length degrees ≡ length old → CountedRows n flat ends lit first count old degrees
+    pub counting-end : (old : List ℕ) → first + count ≤ r → length degrees ≡ length old → ((k : ℕ) → k < 9216 → getD degrees k 0 ≡ getD old k 0)
+        → CountedRows n flat ends lit first count old degrees
     unfolding Counting
-    counting-end old h same =
+    counting-end old h same below =
         let none : first + count - r ≡ 0 = omega arith in
         record {
           long = same;
+          below = below;
           counted = λ a q k.
               let z = rw none at (left q k) in omega (arith, times-degree n flat ends lit q first count a);
         }
 
     module _ (row : List ℕ) (is : row ≡ readRow flat ends lit r) (h : r < first + count) where
-      next : (q : ℕ) → q < n → getD degrees q 0 + (times row q + timesIn (readRows flat ends lit (r + 1) (first + count - (r + 1))) q)
+      next : (q : ℕ) → q < n → degreeOf degrees q + (times row q + timesIn (readRows flat ends lit (r + 1) (first + count - (r + 1))) q)
           ≡ timesIn (readRows flat ends lit first count) q
       unfolding Counting
       next q k = rw is (rw (rows-turn flat ends lit r (first + count) h) at (left q k))
 
-      pub counting-room : ((i : ℕ) → getD ends i 0 < 65536) → first + count ≤ 1024 → (q : ℕ) → q < n → getD degrees q 0 + times row q < 2 ^ 64
+      pub counting-room : ((i : ℕ) → getD ends i 0 < 65536) → first + count ≤ 1024 → (q : ℕ) → q < n → degreeOf degrees q + times row q < 2 ^ 64
       counting-room e l q k = omega (arith, next q k, times-small flat ends lit q e first count)
 
       pub counting-turn : (degrees′ : List ℕ) → AddedRow n row degrees degrees′ → Counting n flat ends lit first count degrees′ (r + 1)

@@ -1,18 +1,17 @@
--- One turn in the lists is one turn of the machine. Assumes nothing.
+-- A turn by the kept numbers is the machine's. Assumes nothing.
 use mathlib.Core.Path.{_≡_, refl, sym, ap, _∙_, subst}
-use mathlib.Core.Bool.{Bool, true, false, not}
+use mathlib.Core.Bool.{Bool, true, false, not, cond}
 use mathlib.Core.Option.{Option, none, some}
-use mathlib.Core.List.{List, []}
-use Prim.Native.Nat.{ℕ, zero, suc}
+use mathlib.Core.List.{List, [], _∷_}
+use Prim.Native.Nat.{ℕ, zero, suc, _+_, _-_, _≤_, _<_}
+use native.Mathlib.Omega.{arith}
 use lib.Dec.{eqb}
-use lib.ListN.{getD}
+use lib.ListN.{length, getD}
+use borrow.Author.Tests.{eqb-true}
 use Rattle.binary.specs.Bits.{below}
-use Rattle.binary.specs.Meaning.{Check}
+use Rattle.binary.specs.Meaning.{Qubits, Check}
 use Rattle.binary.proofs.Bits.{never, eq-eqb, eqb-differ, below-in, not-in}
 use Rattle.code.specs.declared.Qubit.{Qubit}
-use Rattle.code.specs.declared.Row.{Row}
-use Rattle.turns.specs.declared.Dangling.{Dangling}
-use Rattle.turns.specs.declared.Dangling.the-variants.{NoRow, At}
 use Rattle.turns.specs.declared.Choice.{Choice}
 use Rattle.turns.specs.declared.Choice.the-variants.{NoQubit, Named}
 use Rattle.forms.specs.declared.Taken.{Taken}
@@ -20,74 +19,72 @@ use Rattle.turns.specs.declared.Move.the-variants.{Spent, Made}
 use Rattle.turns.specs.declared.Ended.{Ended}
 use Rattle.machine.specs.declared.Word.the-variants.{Certain, Unsure}
 use Rattle.machine.specs.Words.{finished}
-use Rattle.machine.specs.Machine.{isOpen, dangling}
+use Rattle.machine.specs.Machine.{isOpen, keepIf, part, only, orElse, dangling}
 use Rattle.machine.specs.Lists.{view}
-use Rattle.turns.specs.Lists.{checkAt, DanglingAs, choiceOf}
-use Rattle.turns.specs.Scans.{FoundDangling}
-use Rattle.turns.specs.Turns.{RowLists, rowChecks, Qubitwise, Turned, peelBy, guessBy, turnBy, mostBy, Moved}
-use Rattle.machine.proofs.Settling.{part-open}
-use Rattle.machine.proofs.Stages.{dangling-is}
+use Rattle.kept.specs.Rows.{RowLists, checksFrom, rowChecks}
+use Rattle.kept.specs.Kept.{rowIn, dangles?, Lowest}
+use Rattle.turns.specs.Lists.{choiceOf}
+use Rattle.turns.specs.Scans.{OpenFrom, degreeOf}
+use Rattle.turns.specs.Turns.{Working, GoodRows, Ready, Stays, Turned, peelBy, guessBy, turnBy, mostBy, someOpen, Moved}
 use Rattle.machine.proofs.Guessing.{most-rule}
+use Rattle.turns.proofs.Scanning.{one-inside, one-open}
+use Rattle.turns.proofs.TakingRows.{from, here, was-read, from-all, from-none}
 
-module _ (n : ℕ) (c : RowLists) (marks : List ℕ) where
-  abbrev lowest : Option (ℕ × Check)
-  lowest = dangling (isOpen (view n marks)) (rowChecks c)
+----------------------------------------------------------------------
+-- The lowest dangling row
 
-  abbrev Found : Dangling → Type 0
-  Found d = FoundDangling n (c .flat) (c .ends) (c .lit) (c .first) (c .count) marks d
+only-not : (l : List ℕ) → eqb (length l) 1 ≡ false → only l ≡ none
+only-not [] e = refl
+only-not (p ∷ []) e = never refl e
+only-not (p ∷ (q ∷ l)) e = refl
 
-  -- The answer names the machine's row and qubit, or that there is none.
-  found-row : (d : Dangling) (r : Row) (p : Qubit) → Found d → d ≡ At r p → lowest ≡ some (p .0, checkAt (c .flat) (c .ends) (c .lit) (r .0))
-  found-row d r p f e = look lowest refl (f .told)
-    where
-      look : (x : Option (ℕ × Check)) → lowest ≡ x → DanglingAs (checkAt (c .flat) (c .ends) (c .lit)) x d
-          → lowest ≡ some (p .0, checkAt (c .flat) (c .ends) (c .lit) (r .0))
-      look none i v = let z : _≡_ {A = Bool} true false = cc in never refl z
-      look (some y) i v =
-          let rows : r ≡ record { 0 = v .0 } = cc in
-          let qubits : p ≡ record { 0 = y .0 } = cc in
-          let a : y .0 ≡ p .0 = sym (ap (λ (q : Qubit). q .0) qubits) in
-          let b : y .1 ≡ checkAt (c .flat) (c .ends) (c .lit) (r .0) = v .2 ∙ ap (λ (q : Row). checkAt (c .flat) (c .ends) (c .lit) (q .0)) (sym rows) in
-          i ∙ λ j. some (a j, b j)
+dangling-kept : (o : Qubits) (b : Bool) (c : Check) (cs : List Check) → dangling o (keepIf b c cs) ≡ orElse (only (part o (cond b (c .row) []))) c (dangling o cs)
+dangling-kept o true c cs = refl
+dangling-kept o false c cs = refl
 
-  found-none : (d : Dangling) → Found d → d ≡ NoRow → lowest ≡ none
-  found-none d f e = look lowest refl (f .told)
-    where
-      look : (x : Option (ℕ × Check)) → lowest ≡ x → DanglingAs (checkAt (c .flat) (c .ends) (c .lit)) x d → lowest ≡ none
-      look none i v = i
-      look (some y) i v = let z : _≡_ {A = Bool} true false = cc in never refl z
+module _ (o : Qubits) (c : RowLists) where
+  from-here : (i : ℕ) → i < c .count → dangling o (from c i) ≡ orElse (only (part o (rowIn c i))) (here c i) (dangling o (from c (i + 1)))
+  from-here i h =
+      let e : c .count - i ≡ suc (c .count - (i + 1)) = omega arith in
+      let d : suc (c .first + i) ≡ c .first + (i + 1) = omega arith in
+      rw (e, ← d) (dangling-kept o (was-read c i) (here c i) (checksFrom (c .flat) (c .ends) (c .lit) (suc (c .first + i)) (c .count - (i + 1))))
 
-  pub found-open : (d : Dangling) (r : Row) (p : Qubit) → Found d → d ≡ At r p → isOpen (view n marks) (p .0) ≡ true
-  found-open d r p f e =
-      let check = checkAt (c .flat) (c .ends) (c .lit) (r .0) in
-      part-open (isOpen (view n marks)) (check .row) (p .0) [] (dangling-is (isOpen (view n marks)) (rowChecks c) (p .0, check) (found-row d r p f e) .0)
+  -- Rows that do not dangle are passed over.
+  passed : (i d : ℕ) → i + d ≤ c .count → ((j : ℕ) → i ≤ j → j < i + d → dangles? o c j ≡ false) → dangling o (from c i) ≡ dangling o (from c (i + d))
+  passed i zero h f = let e : i + 0 ≡ i = omega arith in rw e
+  passed i (suc d) h f =
+      let e : i + 1 + d ≡ i + suc d = omega arith in
+      from-here i (omega arith) ∙ rw (only-not (part o (rowIn c i)) (f i (omega arith) (omega arith)))
+      (passed (i + 1) d (omega arith) (λ j a b. f j (omega arith) (omega arith)) ∙ ap (λ (k : ℕ). dangling o (from c k)) e)
 
-module _ (n : ℕ) (c : RowLists) (degrees : List ℕ) (budget live : ℕ) (old new : Qubitwise) where
-  pub moved-peel : (d : Dangling) (r : Row) (p : Qubit) (t : Taken) → Found n c (old .marks) d → d ≡ At r p
-      → Turned n live (peelBy n c (p .0) (r .0)) old new t → Moved n c degrees budget live old new (Made t)
-  unfolding Moved turnBy peelBy
-  moved-peel d r p t f e v =
-      let i = found-row n c (old .marks) d r p f e in (
-        rw i,
-        record { kept = v .kept; comes = λ turns. rw i (v .comes turns) },
-      )
+  to : (r : ℕ) → r ≤ c .count → ((j : ℕ) → j < r → dangles? o c j ≡ false) → dangling o (rowChecks c) ≡ dangling o (from c r)
+  to r h f =
+      let e : 0 + r ≡ r = omega arith in
+      sym (ap (dangling o) (from-all c)) ∙ passed 0 r (omega arith) (λ j a b. f j (omega arith)) ∙ ap (λ (k : ℕ). dangling o (from c k)) e
 
-  pub moved-guess : (d : Dangling) (x : Choice) (p : Qubit) (t : Taken) → Found n c (old .marks) d → d ≡ NoRow → (live ≡ budget → ⊥)
-      → x ≡ choiceOf (mostBy n degrees (isOpen (view n (old .marks)))) → x ≡ Named p
-      → Turned n live (guessBy n c (p .0)) old new t → Moved n c degrees budget live old new (Made t)
-  unfolding Moved turnBy guessBy
-  moved-guess d x p t f e l a b v =
-      let i = found-none n c (old .marks) d f e in
-      let j = named (mostBy n degrees (isOpen (view n (old .marks)))) refl in (
-        rw i (eqb-differ live budget l),
-        record { kept = v .kept; comes = λ turns. rw (i, j) (v .comes turns) },
-      )
-    where
-      named : (y : Option ℕ) → mostBy n degrees (isOpen (view n (old .marks))) ≡ y → mostBy n degrees (isOpen (view n (old .marks))) ≡ some (p .0)
-      named none i = let z : x ≡ NoQubit = a ∙ ap choiceOf i in let w : _≡_ {A = Bool} true false = cc in never refl w
-      named (some q) i =
-          let z : x ≡ Named (record { 0 = q }) = a ∙ ap choiceOf i in
-          let w : p ≡ record { 0 = q } = cc in i ∙ ap some (sym (ap (λ (k : Qubit). k .0) w))
+  dangling-none : ((j : ℕ) → j < c .count → dangles? o c j ≡ false) → dangling o (rowChecks c) ≡ none
+  dangling-none f = to (c .count) (omega arith) f ∙ ap (dangling o) (from-none c (c .count) (omega arith))
+
+  -- A dangling row was read.
+  one-read : (b : Bool) (row : List ℕ) → length (part o (cond b row [])) ≡ 1 → cond b row [] ≡ row
+  one-read true row e = refl
+  one-read false row e = absurd (omega arith)
+
+  module _ (r : ℕ) (h : r < c .count) (dangles : dangles? o c r ≡ true) (f : (j : ℕ) → j < r → dangles? o c j ≡ false) (i : ℕ) (first : OpenFrom o (here c r .row) 0 i) where
+    row-is : rowIn c r ≡ here c r .row
+    row-is = one-read (was-read c r) (here c r .row) (eqb-true _ 1 dangles)
+
+    one : length (part o (here c r .row)) ≡ 1
+    one = sym (ap (λ (x : List ℕ). length (part o x)) row-is) ∙ eqb-true _ 1 dangles
+
+    pub found-inside : i < length (here c r .row)
+    found-inside = one-inside o (here c r .row) i first one
+
+    pub dangling-found : dangling o (rowChecks c) ≡ some (getD (here c r .row) i 0, here c r)
+    dangling-found = to r (omega arith) f ∙ from-here r h ∙ rw (row-is, one-open o (here c r .row) i first one)
+
+----------------------------------------------------------------------
+-- The qubit that the rule names
 
 -- The qubit that the rule names is open.
 pub choice-open : (n : ℕ) (degrees marks : List ℕ) (x : Choice) (p : Qubit) → x ≡ choiceOf (mostBy n degrees (isOpen (view n marks))) → x ≡ Named p
@@ -99,23 +96,88 @@ choice-open n degrees marks x p a b = look (mostBy n degrees (isOpen (view n mar
     look (some q) i =
         let z : x ≡ Named (record { 0 = q }) = a ∙ ap choiceOf i in
         let w : p ≡ record { 0 = q } = cc in
-        most-rule (λ k. getD degrees k 0) n .names-open (isOpen (view n marks)) (p .0) (i ∙ ap some (sym (ap (λ (k : Qubit). k .0) w)))
-
-pub moved-spent : (n : ℕ) (c : RowLists) (degrees : List ℕ) (budget live : ℕ) (old : Qubitwise) (d : Dangling) → Found n c (old .marks) d → d ≡ NoRow
-    → live ≡ budget → Moved n c degrees budget live old old Spent
-unfolding Moved
-moved-spent n c degrees budget live old d f e l =
-    (refl, rw (found-none n c (old .marks) d f e) (subst (λ (k : ℕ). eqb live k ≡ true) l (eq-eqb live)))
+        most-rule (degreeOf degrees) n .names-open (isOpen (view n marks)) (p .0) (i ∙ ap some (sym (ap (λ (k : Qubit). k .0) w)))
 
 -- Where some qubit is open the rule names one.
 pub choice-some {ℓ} : {A : Type ℓ} (n : ℕ) (degrees marks : List ℕ) (x : Choice) → x ≡ choiceOf (mostBy n degrees (isOpen (view n marks))) → x ≡ NoQubit
     → below n (λ q. not (isOpen (view n marks) q)) ≡ false → A
 choice-some n degrees marks x a b some-open =
-    never (below-in n _ (λ q l. not-in (most-rule (λ k. getD degrees k 0) n .names-one (isOpen (view n marks)) (look (mostBy n degrees (isOpen (view n marks))) refl) q l))) some-open
+    never (below-in n _ (λ q l. not-in (most-rule (degreeOf degrees) n .names-one (isOpen (view n marks)) (look (mostBy n degrees (isOpen (view n marks))) refl) q l))) some-open
   where
     look : (y : Option ℕ) → mostBy n degrees (isOpen (view n marks)) ≡ y → mostBy n degrees (isOpen (view n marks)) ≡ none
     look none i = i
     look (some q) i = let z : x ≡ Named (record { 0 = q }) = a ∙ ap choiceOf i in let w : _≡_ {A = Bool} true false = cc in never refl w
+
+----------------------------------------------------------------------
+-- A turn
+
+module _ (n : ℕ) (c : RowLists) (budget live : ℕ) (old new : Working) (r : ℕ) (low : Lowest (c .count) (old .work) r) (long : 9216 ≤ length (old .work)) where
+  abbrev o : Qubits
+  o = isOpen (view n (old .marks))
+
+  stays-same : Stays n old old
+  stays-same = record { marks-long = refl; forms-long = refl; work-long = refl; marks-rest = λ q h. refl; forms-rest = λ q h. refl }
+
+  known : Ready n c live old → (r < c .count → dangles? o c r ≡ true) × ((j : ℕ) → j < r → dangles? o c j ≡ false)
+  known ready = low .lowest long o c refl (ready .kept)
+
+  module _ (h : r < c .count) (row : List ℕ) (is : row ≡ here c r .row) (i : ℕ) (first : OpenFrom o row 0 i) where
+    at : OpenFrom o (here c r .row) 0 i
+    at = subst (λ (x : List ℕ). OpenFrom o x 0 i) is first
+
+    -- A dangling row has an open qubit.
+    pub moved-shut : length row ≤ i → Moved n c budget live old old Spent
+    moved-shut l =
+        record {
+          stays = stays-same;
+          moves = λ good ready some-open less.
+              let k = known ready in let m = found-inside o c r h (k .0 h) (k .1) i at in let e = ap length is in absurd (omega arith);
+        }
+
+    pub moved-peel : (p : ℕ) → p ≡ getD row i 0 → (t : Taken) → Turned n c live (peelBy n c p (c .first + r)) old new t → Moved n c budget live old new (Made t)
+    unfolding turnBy peelBy
+    moved-peel p e t v =
+        record {
+          stays = v .stays;
+          moves = λ good ready some-open less.
+              let k = known ready in
+              let d : dangling o (rowChecks c) ≡ some (p, here c r) = dangling-found o c r h (k .0 h) (k .1) i at ∙ ap (λ (q : ℕ). some (q, here c r)) (ap (λ (x : List ℕ). getD x i 0) (sym is) ∙ sym e) in
+              let w = v .turns good ready in
+              (rw d, record { comes = λ turns. rw d (w .comes turns); ready = w .ready; degrees = w .degrees });
+        }
+
+  module _ (h : c .count ≤ r) where
+    no-row : Ready n c live old → dangling o (rowChecks c) ≡ none
+    no-row ready = dangling-none o c (λ j l. known ready .1 j (omega arith))
+
+    pub moved-spent : budget ≤ live → Moved n c budget live old old Spent
+    moved-spent l =
+        record {
+          stays = stays-same;
+          moves = λ good ready some-open less. let e : live ≡ budget = omega arith in (refl, rw (no-row ready) (subst (λ (k : ℕ). eqb live k ≡ true) e (eq-eqb live)));
+        }
+
+    module _ (x : Choice) (a : x ≡ choiceOf (mostBy n (old .work) o)) where
+      pub moved-unnamed : x ≡ NoQubit → Moved n c budget live old old Spent
+      moved-unnamed b = record { stays = stays-same; moves = λ good ready some-open less. choice-some n (old .work) (old .marks) x a b some-open }
+
+      pub moved-guess : (p : Qubit) → x ≡ Named p → live < budget → (t : Taken) → Turned n c live (guessBy n c (p .0)) old new t → Moved n c budget live old new (Made t)
+      unfolding turnBy guessBy
+      moved-guess p b l t v =
+          record {
+            stays = v .stays;
+            moves = λ good ready some-open less.
+                let i = no-row ready in
+                let j = named (mostBy n (old .work) o) refl in
+                let w = v .turns good ready in
+                (rw i (eqb-differ live budget (λ e. absurd (omega arith))), record { comes = λ turns. rw (i, j) (w .comes turns); ready = w .ready; degrees = w .degrees });
+          }
+        where
+          named : (y : Option ℕ) → mostBy n (old .work) o ≡ y → mostBy n (old .work) o ≡ some (p .0)
+          named none i = let z : x ≡ NoQubit = a ∙ ap choiceOf i in let w : _≡_ {A = Bool} true false = cc in never refl w
+          named (some q) i =
+              let z : x ≡ Named (record { 0 = q }) = a ∙ ap choiceOf i in
+              let w : p ≡ record { 0 = q } = cc in i ∙ ap some (sym (ap (λ (k : Qubit). k .0) w))
 
 ----------------------------------------------------------------------
 -- The word of a finished half

@@ -1,5 +1,5 @@
 -- The loop over the turns is the machine's run. Assumes nothing.
-use mathlib.Core.Path.{_≡_, refl, sym, ap, ap₂, _∙_, subst}
+use mathlib.Core.Path.{_≡_, refl, sym, ap, ap₂, _∙_, fun-ext, subst}
 use mathlib.Core.Bool.{Bool, true, false, not}
 use mathlib.Core.Option.{Option, none, some}
 use mathlib.Core.List.{List}
@@ -20,17 +20,19 @@ use Rattle.turns.specs.declared.Move.{Move}
 use Rattle.turns.specs.declared.Move.the-variants.{Spent, Made}
 use Rattle.turns.specs.declared.Ended.{Ended}
 use Rattle.machine.specs.Words.{finished}
-use Rattle.machine.specs.Machine.{State, Stage, on, failed, End, isOpen, noneOpen, before, turn, run}
+use Rattle.machine.specs.Machine.{State, Stage, on, failed, End, isOpen, noneOpen, before, most, turn, run}
 use Rattle.machine.specs.Report.{marked}
 use Rattle.machine.specs.Lists.{view}
 use Rattle.forms.specs.Forms.{Topped}
 use Rattle.turns.specs.Lists.{stateOf}
-use Rattle.turns.specs.Turns.{RowLists, rowChecks, Qubitwise, StageAs, Kept, Turned, turnBy, mostBy, spent?, Moved, EndedAs, runFrom}
+use Rattle.kept.specs.Rows.{RowLists, rowChecks}
+use Rattle.kept.proofs.KeptRows.{open-below}
+use Rattle.turns.specs.Scans.{degreeOf}
+use Rattle.turns.specs.Turns.{Working, GoodRows, Stays, Ready, StageAs, Turns, turnBy, mostBy, spent?, MovedBy, Moved, EndedAs, runFrom, RunEnds}
 use Rattle.machine.proofs.Runs.{Unsaid}
 use Rattle.machine.proofs.Guessing.{most-rule}
 use Rattle.machine.proofs.Budgets.{FewAt, few-turn}
 use Rattle.machine.proofs.Counts.{OpenAt, open-turn}
-use Rattle.turns.proofs.Scanning.{open-below}
 
 ----------------------------------------------------------------------
 -- The machine's run
@@ -73,125 +75,167 @@ some-open n left marks e l =
 ----------------------------------------------------------------------
 -- The loop
 
-module _ (n : ℕ) (c : RowLists) (degrees : List ℕ) (budget limit : ℕ) (old : Qubitwise) (begun : ℕ) where
+pub stays-on : (n : ℕ) (old mid new : Working) → Stays n old mid → Stays n mid new → Stays n old new
+stays-on n old mid new a b =
+    record {
+      marks-long = b .marks-long ∙ a .marks-long;
+      forms-long = b .forms-long ∙ a .forms-long;
+      work-long = b .work-long ∙ a .work-long;
+      marks-rest = λ q i. b .marks-rest q i ∙ a .marks-rest q i;
+      forms-rest = λ q i. b .forms-rest q i ∙ a .forms-rest q i;
+    }
+
+module _ (n : ℕ) (c : RowLists) (budget limit : ℕ) (old : Working) (begun : ℕ) where
+  abbrev degrees : List ℕ
+  degrees = old .work
+
   abbrev whole : End
   whole = runFrom n c degrees budget limit (suc limit) old begun 0
 
   -- So far: the half that is left to run ends as the whole one.
-  pub record Running (l : Qubitwise) (live turns left : ℕ) : Type 0 where
-    pub kept : Kept n old l
+  pub record Running (l : Working) (live turns left : ℕ) : Type 0 where
     pub same : runFrom n c degrees budget limit (suc (limit - turns)) l live turns ≡ runFrom n c degrees budget limit (suc limit) old begun 0
-    pub within : turns ≤ limit
     pub count : left ≡ marked n (view n (l .marks)) 4
-    pub top : Topped n live (l .forms)
+    pub ready : Ready n c live l
     pub few : live ≤ budget
+    pub degrees : (q : ℕ) → degreeOf (l .work) q ≡ degreeOf degrees q
 
-  pub running-start : (left : ℕ) → left ≡ marked n (view n (old .marks)) 4 → Topped n begun (old .forms) → begun ≤ budget → Running old begun 0 left
-  running-start left e top few =
+  -- Whatever the lists hold: their lengths, and elements past n, stay.
+  pub record Goes (l : Working) (live turns left : ℕ) : Type 0 where
+    pub stays : Stays n old l
+    pub within : turns ≤ limit
+    pub so : GoodRows n c → Ready n c begun old → begun ≤ budget → Running l live turns left
+
+  pub goes-start : (left : ℕ) → left ≡ marked n (view n (old .marks)) 4 → Goes old begun 0 left
+  goes-start left e =
       record {
-        kept = record { marks-long = refl; forms-long = refl; marks-rest = λ q l. refl; forms-rest = λ q l. refl };
-        same = let z : limit - 0 ≡ limit = omega arith in ap (λ (k : ℕ). runFrom n c degrees budget limit (suc k) old begun 0) z;
+        stays = record { marks-long = refl; forms-long = refl; work-long = refl; marks-rest = λ q l. refl; forms-rest = λ q l. refl };
         within = zero-le;
-        count = e;
-        top = top;
-        few = few;
+        so = λ good ready few. record {
+          same = let z : limit - 0 ≡ limit = omega arith in ap (λ (k : ℕ). runFrom n c (old .work) budget limit (suc k) old begun 0) z;
+          count = e;
+          ready = ready;
+          few = few;
+          degrees = λ q. refl;
+        };
       }
 
-  module _ (l : Qubitwise) (live turns left : ℕ) (v : Running l live turns left) where
+  module _ (l : Working) (live turns left : ℕ) (g : Goes l live turns left) where
     abbrev st : State
     st = stateOf n (l .marks) (l .forms) live turns
 
     abbrev rule : Qubits → Option ℕ
-    rule = mostBy n degrees
+    rule = mostBy n (old .work)
 
     -- A test before a turn ends the half here.
-    ends : (w : Word) → before (rowChecks c) n rule budget limit st ≡ some w → EndedAs n old l (record { word = w; turns = turns; live = live }) whole
+    ends : Running l live turns left → (w : Word) → before (rowChecks c) n rule budget limit st ≡ some w → EndedAs n c l (record { word = w; turns = turns; live = live }) whole
     unfolding runFrom
-    ends w e =
-        subst (EndedAs n old l (record { word = w; turns = turns; live = live }))
+    ends v w e =
+        subst (EndedAs n c l (record { word = w; turns = turns; live = live }))
         (sym (run-ends (rowChecks c) n rule budget limit (limit - turns) st w e) ∙ v .same)
-        (record { kept = v .kept; word = refl; turns = refl; live = refl; marks = refl; forms = λ i. refl })
+        (record { word = refl; turns = refl; live = refl; marks = refl; forms = λ i. refl; kept = λ i. v .ready .kept })
 
-    pub running-finished : (r : Ended) → r ≡ record { word = finished live; turns = turns; live = live } → left ≡ 0 → EndedAs n old l r whole
-    running-finished r i e = subst (λ (x : Ended). EndedAs n old l x whole) (sym i) (ends (finished live) (rw (none-counted n (isOpen (view n (l .marks))) (sym (v .count) ∙ e))))
+    pub goes-finished : (r : Ended) → r ≡ record { word = finished live; turns = turns; live = live } → left ≡ 0 → RunEnds n c budget limit begun old l r
+    goes-finished r i e =
+        record {
+          stays = g .stays;
+          ends = λ good ready few.
+              let v = g .so good ready few in
+              subst (λ (x : Ended). EndedAs n c l x whole) (sym i) (ends v (finished live) (rw (none-counted n (isOpen (view n (l .marks))) (sym (v .count) ∙ e))));
+        }
 
     module _ (more : 0 < left) where
-      open-now : noneOpen (rowChecks c) n rule st ≡ false
-      open-now = some-open n left (l .marks) (v .count) more
+      open-now : Running l live turns left → noneOpen (rowChecks c) n rule st ≡ false
+      open-now v = some-open n left (l .marks) (v .count) more
 
-      pub running-stopped : turns ≡ limit → EndedAs n old l (record { word = Stopped; turns = turns; live = live }) whole
-      running-stopped e = ends Stopped (rw (open-now, subst (λ (k : ℕ). eqb turns k ≡ true) e (eq-eqb turns)))
+      pub goes-stopped : turns ≡ limit → RunEnds n c budget limit begun old l (record { word = Stopped; turns = turns; live = live })
+      goes-stopped e =
+          record {
+            stays = g .stays;
+            ends = λ good ready few.
+                let v = g .so good ready few in ends v Stopped (rw (open-now v, subst (λ (k : ℕ). eqb turns k ≡ true) e (eq-eqb turns)));
+          }
 
-      module _ (early : turns ≡ limit → ⊥) (l′ : Qubitwise) (m : Move) (moved : Moved n c degrees budget live l l′ m) where
-        moved-as : (m′ : Move) → m ≡ m′ → Moved n c degrees budget live l l′ m′
-        moved-as m′ e = subst (Moved n c degrees budget live l l′) e moved
+      module _ (early : turns ≡ limit → ⊥) (l′ : Working) (m : Move) (moved : Moved n c budget live l l′ m) where
+        moves : GoodRows n c → Running l live turns left → (m′ : Move) → m ≡ m′ → MovedBy n c budget live l l′ m′
+        moves good v m′ e = subst (MovedBy n c budget live l l′) e (moved .moves good (v .ready) (open-now v) (v .few))
 
-        pub running-spent : m ≡ Spent → EndedAs n old l′ (record { word = Word.Spent; turns = turns; live = live }) whole
-        unfolding Moved
-        running-spent i =
-            let z = moved-as Spent i in
-            subst (λ (x : Qubitwise). EndedAs n old x (record { word = Word.Spent; turns = turns; live = live }) whole) (sym (z .0))
-            (ends Word.Spent (rw (open-now, eqb-differ turns limit early, z .1)))
+        pub goes-spent : m ≡ Spent → RunEnds n c budget limit begun old l′ (record { word = Word.Spent; turns = turns; live = live })
+        goes-spent i =
+            record {
+              stays = stays-on n old l l′ (g .stays) (moved .stays);
+              ends = λ good ready few.
+                  let v = g .so good ready few in
+                  let z = moves good v Spent i in
+                  subst (λ (x : Working). EndedAs n c x (record { word = Word.Spent; turns = turns; live = live }) whole) (sym (z .0))
+                  (ends v Word.Spent (rw (open-now v, eqb-differ turns limit early, z .1)));
+            }
 
         module _ (t : Taken) (is-made : m ≡ Made t) where
-          z : (spent? n c budget live (l .marks) ≡ false) × Turned n live (turnBy n c degrees) l l′ t
-          unfolding Moved
-          z = moved-as (Made t) is-made
+          stays : Stays n old l′
+          stays = stays-on n old l l′ (g .stays) (moved .stays)
 
-          unsaid : Unsaid (rowChecks c) n rule budget limit st
-          unsaid = record { some-open = open-now; room = eqb-differ turns limit early; free = z .0 }
+          module _ (good : GoodRows n c) (v : Running l live turns left) where
+            z : (spent? n c budget live (l .marks) ≡ false) × Turns n c live (turnBy n c (l .work)) l l′ t
+            z = moves good v (Made t) is-made
 
-          -- A turn is made, and the rest of the run follows.
-          goes : run (rowChecks c) n rule budget limit (limit - turns) (turn (rowChecks c) n rule st) ≡ whole
-          unfolding runFrom
-          goes =
-              sym (run-goes (rowChecks c) n rule budget limit (limit - turns) st (rw (open-now, eqb-differ turns limit early, z .0))) ∙ v .same
+            unsaid : Unsaid (rowChecks c) n rule budget limit st
+            unsaid = record { some-open = open-now v; room = eqb-differ turns limit early; free = z .0 }
 
-          kept-on : Kept n old l′
-          kept-on =
+            -- A turn is made, and the rest of the run follows.
+            goes : run (rowChecks c) n rule budget limit (limit - turns) (turn (rowChecks c) n rule st) ≡ whole
+            unfolding runFrom
+            goes =
+                sym (run-goes (rowChecks c) n rule budget limit (limit - turns) st (rw (open-now v, eqb-differ turns limit early, z .0))) ∙ v .same
+
+            comes : StageAs n l′ (suc turns) t (turn (rowChecks c) n rule st)
+            unfolding turnBy
+            comes = subst (λ (d : ℕ → ℕ). StageAs n l′ (suc turns) t (turn (rowChecks c) n (most d n) st)) (fun-ext (v .degrees)) (z .1 .comes turns)
+
+            failed-end : t ≡ Failed → EndedAs n c l′ (record { word = None; turns = turns + 1; live = 0 }) whole
+            failed-end e = look (turn (rowChecks c) n rule st) refl comes
+              where
+                look : (s : Stage) → turn (rowChecks c) n rule st ≡ s → StageAs n l′ (suc turns) t s → EndedAs n c l′ (record { word = None; turns = turns + 1; live = 0 }) whole
+                look (failed st′) i w =
+                    subst (EndedAs n c l′ (record { word = None; turns = turns + 1; live = 0 }))
+                    (sym (run-failed (rowChecks c) n rule budget limit (limit - turns) st′)
+                    ∙ ap (run (rowChecks c) n rule budget limit (limit - turns)) (sym i) ∙ goes)
+                    (record { word = refl; turns = add-one turns ∙ w .2; live = sym (w .3); marks = w .1; forms = λ j. never refl j; kept = λ j. never refl j })
+                look (on st′) i w = let u : _≡_ {A = Bool} true false = cc in never refl u
+
+            running-on : turns ≤ limit → (now : ℕ) → t ≡ Live now → Running l′ now (turns + 1) (left - 1)
+            unfolding runFrom
+            running-on in-limit now e = look (turn (rowChecks c) n rule st) refl comes
+              where
+                look : (s : Stage) → turn (rowChecks c) n rule st ≡ s → StageAs n l′ (suc turns) t s → Running l′ now (turns + 1) (left - 1)
+                look (failed st′) i w = let u : _≡_ {A = Bool} true false = cc in never refl u
+                look (on st′) i w =
+                    let e′ : st′ .forms .live ≡ now = cc in
+                    let here : stateOf n (l′ .marks) (l′ .forms) now (turns + 1) ≡ st′ = ap₂ (stateOf n (l′ .marks) (l′ .forms)) (sym e′) (add-one turns) ∙ w .1 in
+                    let opened = subst (OpenAt n (turns + left)) i (open-turn (rowChecks c) n rule (most-rule (degreeOf (old .work)) n) (turns + left) st (ap (turns +_) (sym (v .count)), open-below n (l .marks))) in
+                    let marks = ap (λ (s : State). marked n (s .mark) 4) here in
+                    let made = ap (λ (s : State). s .turns) here in
+                    record {
+                      same = ap₂ (run (rowChecks c) n rule budget limit) (steps in-limit) (ap on here ∙ sym i) ∙ goes;
+                      count = counted (st′ .turns) (marked n (st′ .mark) 4) (marked n (view n (l′ .marks)) 4) (opened .0) made marks;
+                      ready = z .1 .ready now e;
+                      few = subst (λ (k : ℕ). k ≤ budget) e′ (subst (FewAt budget) i (few-turn (rowChecks c) n rule budget limit st (v .few) unsaid));
+                      degrees = λ q. z .1 .degrees q ∙ v .degrees q;
+                    }
+                  where
+                    steps : turns ≤ limit → suc (limit - (turns + 1)) ≡ limit - turns
+                    steps w′ = let d = lt-of-le-of-ne w′ early in omega arith
+
+                    counted : (a b d : ℕ) → a + b ≡ turns + left → turns + 1 ≡ a → d ≡ b → left - 1 ≡ d
+                    counted a b d x y u = omega arith
+
+          pub goes-failed : t ≡ Failed → RunEnds n c budget limit begun old l′ (record { word = None; turns = turns + 1; live = 0 })
+          goes-failed e = record { stays = stays; ends = λ good ready few. failed-end good (g .so good ready few) e }
+
+          pub goes-on : (now : ℕ) → t ≡ Live now → Goes l′ now (turns + 1) (left - 1)
+          goes-on now e =
               record {
-                marks-long = z .1 .kept .marks-long ∙ v .kept .marks-long;
-                forms-long = z .1 .kept .forms-long ∙ v .kept .forms-long;
-                marks-rest = λ q i. z .1 .kept .marks-rest q i ∙ v .kept .marks-rest q i;
-                forms-rest = λ q i. z .1 .kept .forms-rest q i ∙ v .kept .forms-rest q i;
+                stays = stays;
+                within = let d = lt-of-le-of-ne (g .within) early in omega arith;
+                so = λ good ready few. running-on good (g .so good ready few) (g .within) now e;
               }
-
-          pub running-failed : t ≡ Failed → EndedAs n old l′ (record { word = None; turns = turns + 1; live = 0 }) whole
-          unfolding turnBy
-          running-failed e = look (turn (rowChecks c) n rule st) refl (z .1 .comes turns)
-            where
-              look : (s : Stage) → turn (rowChecks c) n rule st ≡ s → StageAs n l′ (suc turns) t s
-                  → EndedAs n old l′ (record { word = None; turns = turns + 1; live = 0 }) whole
-              look (failed st′) i w =
-                  subst (EndedAs n old l′ (record { word = None; turns = turns + 1; live = 0 }))
-                  (sym (run-failed (rowChecks c) n rule budget limit (limit - turns) st′)
-                  ∙ ap (run (rowChecks c) n rule budget limit (limit - turns)) (sym i) ∙ goes)
-                  (record { kept = kept-on; word = refl; turns = add-one turns ∙ w .2; live = sym (w .3); marks = w .1; forms = λ j. never refl j })
-              look (on st′) i w = let u : _≡_ {A = Bool} true false = cc in never refl u
-
-          pub running-on : (now : ℕ) → t ≡ Live now → Running l′ now (turns + 1) (left - 1)
-          unfolding turnBy runFrom
-          running-on now e = look (turn (rowChecks c) n rule st) refl (z .1 .comes turns)
-            where
-              look : (s : Stage) → turn (rowChecks c) n rule st ≡ s → StageAs n l′ (suc turns) t s → Running l′ now (turns + 1) (left - 1)
-              look (failed st′) i w = let u : _≡_ {A = Bool} true false = cc in never refl u
-              look (on st′) i w =
-                  let e′ : st′ .forms .live ≡ now = cc in
-                  let here : stateOf n (l′ .marks) (l′ .forms) now (turns + 1) ≡ st′ = ap₂ (stateOf n (l′ .marks) (l′ .forms)) (sym e′) (add-one turns) ∙ w .1 in
-                  let opened = subst (OpenAt n (turns + left)) i (open-turn (rowChecks c) n rule (most-rule (λ q. getD degrees q 0) n) (turns + left) st (ap (turns +_) (sym (v .count)), open-below n (l .marks))) in
-                  let marks = ap (λ (s : State). marked n (s .mark) 4) here in
-                  let made = ap (λ (s : State). s .turns) here in
-                  record {
-                    kept = kept-on;
-                    same = ap₂ (run (rowChecks c) n rule budget limit) (steps (v .within)) (ap on here ∙ sym i) ∙ goes;
-                    within = let d = lt-of-le-of-ne (v .within) early in omega arith;
-                    count = counted (st′ .turns) (marked n (st′ .mark) 4) (marked n (view n (l′ .marks)) 4) (opened .0) made marks;
-                    top = subst (λ (k : ℕ). Topped n k (l′ .forms)) e′ (w .2);
-                    few = subst (λ (k : ℕ). k ≤ budget) e′ (subst (FewAt budget) i (few-turn (rowChecks c) n rule budget limit st (v .few) unsaid));
-                  }
-                where
-                  steps : turns ≤ limit → suc (limit - (turns + 1)) ≡ limit - turns
-                  steps w′ = let d = lt-of-le-of-ne w′ early in omega arith
-
-                  counted : (a b d : ℕ) → a + b ≡ turns + left → turns + 1 ≡ a → d ≡ b → left - 1 ≡ d
-                  counted a b d x y u = omega arith

@@ -17,12 +17,18 @@ use Rattle.binary.proofs.Bits.{bit as cases, never, eqb-eq, eq-eqb, eqb-differ,
 use Rattle.binary.proofs.WordBits.{bit-pow, one-shl}
 use Rattle.code.specs.Lists.{rowAt}
 use Rattle.forms.specs.declared.Taken.{Taken}
+use Rattle.forms.specs.declared.Taken.the-variants.{Failed, Live}
 use Rattle.machine.specs.Machine.{Form, Forms, put, isOpen, part, empty?, closed?, closing, side, takeUpAll, stage, settle}
 use Rattle.machine.specs.Lists.{view, formsOf}
 use Rattle.forms.specs.Forms.{withLive, Topped, TakenAs, TookUp}
 use Rattle.turns.specs.Lists.{stateOf, closedAt?}
 use Rattle.forms.specs.Sides.{check, IsSide}
-use Rattle.turns.specs.Turns.{RowLists, rowChecks, Qubitwise, StageAs, Turned, ToppedWord, settleBy, peelBy, guessBy}
+use Rattle.kept.specs.Rows.{RowLists, rowChecks}
+use Rattle.kept.specs.Kept.{Kept}
+use Rattle.kept.proofs.KeptRows.{open-below, rows-same}
+use Rattle.turns.specs.Turns.{Working, Ready, StageAs, TakenRows, ClosedRows, Turns, Turned, ToppedWord, settleBy, Settled, peelBy, guessBy}
+use Rattle.turns.proofs.TakingRows.{never-live}
+use Rattle.turns.proofs.ClosingRows.{not-has}
 use Rattle.machine.proofs.Settling.{side-top}
 use Rattle.machine.proofs.Stages.{open-put}
 
@@ -55,15 +61,6 @@ has-open o p (q ∷ r) t e =
     cases (o q) (λ u. rw u)
     (λ u. rw u (has-open o p r t (or-out (eqb q p) (has r p) e (λ i. never (subst (λ (x : ℕ). o x ≡ true) (sym (eqb-eq q p i)) t) u) (λ i. i))))
 
--- A row that has not the qubit has the same open qubits after it is settled.
-not-has : (o : Qubits) (p : ℕ) (r : Row) → has r p ≡ false → part (put p false o) r ≡ part o r
-not-has o p [] e = refl
-not-has o p (q ∷ r) e =
-    let a : eqb q p ≡ false = cases (eqb q p) (λ t. never (subst (λ (b : Bool). (b || has r p) ≡ true) (sym t) refl) e) (λ t. t) in
-    let b : has r p ≡ false = subst (λ (x : Bool). (x || has r p) ≡ false) a e in
-    let d : eqb p q ≡ false = eqb-differ p q (λ i. never (subst (λ (x : ℕ). eqb x p ≡ true) i (eq-eqb p)) a) in
-    rw (d, not-has o p r b)
-
 closing-test : (mark : ℕ → ℕ) (p m : ℕ) → isOpen mark p ≡ true → eqb m 4 ≡ false → (c : Check)
     → closing mark (put p m mark) c ≡ closedAt? false p (isOpen (put p m mark)) c
 unfolding closedAt?
@@ -80,85 +77,84 @@ closing-test mark p m t e c =
 ----------------------------------------------------------------------
 -- A qubit settled
 
-module _ (n : ℕ) (c : RowLists) (marks forms : List ℕ) (p m word live : ℕ) (below : p < n) (in-marks : p < length marks) (in-forms : p < length forms)
-    (is-open : isOpen (view n marks) p ≡ true) (not-four : eqb m 4 ≡ false) where
-  stage-as : (forms′ : List ℕ) (turns : ℕ) (t : Taken) (r : Option Forms) → TakenAs n forms′ r t
-      → StageAs n (record { marks = set marks p m; forms = forms′ }) turns t (stage (put p m (view n marks)) turns r)
-  stage-as forms′ turns t none e = (e, view-set n marks p m below in-marks, refl, refl)
-  stage-as forms′ turns t (some fs) e = (
+module _ (n : ℕ) (c : RowLists) (old : Working) (forms′ work′ : List ℕ) (p m word live : ℕ) (size : n ≤ 1024) (few : c .count ≤ 512) (below : p < n) (in-marks : p < length (old .marks))
+    (in-forms : p < length (old .forms)) (is-open : isOpen (view n (old .marks)) p ≡ true) (not-four : eqb m 4 ≡ false) (t : Taken) where
+  abbrev marks′ : List ℕ
+  marks′ = set (old .marks) p m
+
+  abbrev new : Working
+  new = record { marks = marks′; forms = forms′; work = work′ }
+
+  abbrev o : Qubits
+  o = isOpen (view n (old .marks))
+
+  -- The open qubits afterwards.
+  open-then : isOpen (view n marks′) ≡ put p false o
+  open-then = ap isOpen (view-set n (old .marks) p m below in-marks) ∙ open-put p m (view n (old .marks)) not-four
+
+  stage-as : (turns : ℕ) (r : Option Forms) → TakenAs n forms′ r t → StageAs n new turns t (stage (put p m (view n (old .marks))) turns r)
+  stage-as turns none e = (e, view-set n (old .marks) p m below in-marks, refl, refl)
+  stage-as turns (some fs) e = (
     e .0,
-    λ i. record { mark = view-set n marks p m below in-marks i; forms = record { form = e .1 i; live = fs .live }; turns = turns },
+    λ i. record { mark = view-set n (old .marks) p m below in-marks i; forms = record { form = e .1 i; live = fs .live }; turns = turns },
     e .2,
   )
 
-  pub settle-turned : (forms′ : List ℕ) (t : Taken)
-      → TookUp n (takeUpAll (closedAt? false p (isOpen (view n (set marks p m)))) (rowChecks c) (withLive n (set forms p word) live)) t (set forms p word) forms′
-      → (old : ℕ) → Turned n old (settleBy n c p m word live) (record { marks = marks; forms = forms }) (record { marks = set marks p m; forms = forms′ }) t
+  topped-of : (r : Option Forms) → TakenAs n forms′ r t → (k : ℕ) → t ≡ Live k → Topped n k forms′
+  topped-of none e k i = never-live k (sym e ∙ i)
+  topped-of (some fs) e k i = let z : Live (fs .live) ≡ Live k = sym (e .0) ∙ i in let same : fs .live ≡ k = cc in subst (λ (l : ℕ). Topped n l forms′) same (e .2)
+
+  topped-set : Topped n live (old .forms) → ToppedWord live word → Topped n live (set (old .forms) p word)
+  topped-set top top-word q k l =
+      ap (λ (f : ℕ → Form). f q k) (forms-set n (old .forms) p word below in-forms) ∙ cases (eqb p q) (λ e. rw e (top-word k l)) (λ e. rw e (top q k l))
+
+  pub settled : ClosedRows n c p live (set (old .forms) p word) forms′ (old .work) work′ t → Settled n c p m word live old new t
   unfolding settleBy
-  settle-turned forms′ t took old =
+  settled v =
       record {
-        kept = record {
-          marks-long = length-set marks p m;
-          forms-long = took .long ∙ length-set forms p word;
-          marks-rest = rest-set n marks p m below;
-          forms-rest = λ q l. took .rest q l ∙ rest-set n forms p word below q l;
+        stays = record {
+          marks-long = length-set (old .marks) p m;
+          forms-long = v .forms-long ∙ length-set (old .forms) p word;
+          work-long = v .work-long;
+          marks-rest = rest-set n (old .marks) p m below;
+          forms-rest = λ q l. v .forms-rest q l ∙ rest-set n (old .forms) p word below q l;
         };
-        comes = λ turns. stage-as forms′ (suc turns) t taken (subst (λ (r : Option Forms). TakenAs n forms′ r t) same (took .taken));
+        turns = λ good ready top-word before. turns-of (v .rows good o is-open (ready .kept) (ready .on) (topped-set (ready .topped) top-word)) ready before;
       }
     where
       taken : Option Forms
-      taken = takeUpAll (closing (view n marks) (put p m (view n marks))) (rowChecks c) (record { form = put p (bit word) (formsOf n forms); live = live })
+      taken = takeUpAll (closing (view n (old .marks)) (put p m (view n (old .marks)))) (rowChecks c) (record { form = put p (bit word) (formsOf n (old .forms)); live = live })
 
-      same : takeUpAll (closedAt? false p (isOpen (view n (set marks p m)))) (rowChecks c) (withLive n (set forms p word) live) ≡ taken
+      same : takeUpAll (closedAt? false p (put p false o)) (rowChecks c) (withLive n (set (old .forms) p word) live) ≡ taken
       same =
           ap₂ (λ (s : Check → Bool) (f : ℕ → Form). takeUpAll s (rowChecks c) (record { form = f; live = live }))
-          (ap (λ (f : ℕ → ℕ). closedAt? false p (isOpen f)) (view-set n marks p m below in-marks)
-          ∙ sym (fun-ext (closing-test (view n marks) p m is-open not-four)))
-          (forms-set n forms p word below in-forms)
+          (ap (closedAt? false p) (sym (open-put p m (view n (old .marks)) not-four)) ∙ sym (fun-ext (closing-test (view n (old .marks)) p m is-open not-four)))
+          (forms-set n (old .forms) p word below in-forms)
 
--- What taking up rows asks of the lists after the stores.
-pub set-requires : (n : ℕ) (marks forms lit : List ℕ) (p m word live first count : ℕ) → n ≤ length marks → n ≤ length forms
-    → first + count ≤ length lit → first + count ≤ 1024 → p < n → Topped n live forms → ToppedWord live word
-    → (n ≤ length (set forms p word)) × (n ≤ length (set marks p m)) × (first + count ≤ length lit) × (first + count ≤ 1024) × Topped n live (set forms p word)
-set-requires n marks forms lit p m word live first count a b d e i top top-word = (
-  simp length-set b,
-  simp length-set a,
-  d,
-  e,
-  λ q k l. ap (λ (f : ℕ → Form). f q k) (forms-set n forms p word i (omega arith)) ∙ cases (eqb p q) (λ t. rw t (top-word k l)) (λ t. rw t (top q k l)),
-)
+      took-as : TakenRows n c p live o (set (old .forms) p word) forms′ work′ t → TakenAs n forms′ taken t
+      took-as w = subst (λ (r : Option Forms). TakenAs n forms′ r t) same (w .taken)
+
+      still : (q : ℕ) → isOpen (view n marks′) q ≡ true → (o q ≡ true) × (q < 1024)
+      still q e =
+          let i : put p false o q ≡ true = sym (ap (λ (f : Qubits). f q) open-then) ∙ e in
+          let was : o q ≡ true = cases (eqb p q) (λ u. never (rw u at i) refl) (λ u. rw u at i) in
+          let l = open-below n (old .marks) q was in
+          (was, omega arith)
+
+      turns-of : TakenRows n c p live o (set (old .forms) p word) forms′ work′ t → Ready n c live old → (before : ℕ) → Turns n c before (settleBy n c p m word live) old new t
+      turns-of w ready before =
+          record {
+            comes = λ turns. stage-as (suc turns) taken (took-as w);
+            ready = λ k e. record {
+              topped = topped-of taken (took-as w) k e;
+              kept = subst (λ (f : Qubits). Kept f c work′) (sym open-then) (w .kept k e);
+              on = rows-same n o (isOpen (view n marks′)) c (old .work) work′ few (v .below) still (ready .on);
+            };
+            degrees = λ q. v .past (9216 + q) (omega arith);
+          }
 
 ----------------------------------------------------------------------
 -- Peeling and guessing
-
--- The side's word is the form that the machine gives the qubit.
-pub peel-turned : (n : ℕ) (c : RowLists) (p r live word : ℕ) (row : Row) (old new : Qubitwise) (t : Taken) → row ≡ rowAt (c .flat) (c .ends) r
-    → IsSide n (old .forms) (check (eqb (getD (c .lit) r 0) 1) row) word
-    → Turned n live (settleBy n c p 2 word live) old new t → Turned n live (peelBy n c p r) old new t
-unfolding settleBy peelBy
-peel-turned n c p r live word row old new t e s v =
-    record {
-      kept = v .kept;
-      comes = λ turns.
-          subst (λ (f : Form). StageAs n new (suc turns) t
-          (settle (rowChecks c) (stateOf n (old .marks) (old .forms) live turns) p 2 (record { form = put p f (formsOf n (old .forms)); live = live })))
-          (fun-ext (subst (λ (x : Row). (k : ℕ) → bit word k ≡ side (withLive n (old .forms) 0) (check (eqb (getD (c .lit) r 0) 1) x) k) e (s .bits))) (v .comes turns);
-    }
-
-pub guess-turned : (n : ℕ) (c : RowLists) (p live newest word : ℕ) (old new : Qubitwise) (t : Taken) → newest ≡ suc live
-    → ((k : ℕ) → bit word k ≡ eqb k (suc live)) → Turned n live (settleBy n c p 3 word newest) old new t → Turned n live (guessBy n c p) old new t
-unfolding settleBy guessBy
-guess-turned n c p live newest word old new t e s v =
-    record {
-      kept = v .kept;
-      comes = λ turns.
-          subst (λ (f : Form). StageAs n new (suc turns) t
-          (settle (rowChecks c) (stateOf n (old .marks) (old .forms) live turns) p 3 (record { form = put p f (formsOf n (old .forms)); live = suc live })))
-          (fun-ext s)
-          (subst (λ (m : ℕ). StageAs n new (suc turns) t
-          (settle (rowChecks c) (stateOf n (old .marks) (old .forms) live turns) p 3 (record { form = put p (bit word) (formsOf n (old .forms)); live = m })))
-          e (v .comes turns));
-    }
 
 -- A side has no bit above the live guesses.
 pub side-topped : (n live : ℕ) (forms : List ℕ) (c : Check) (word : ℕ) → Topped n live forms → IsSide n forms c word → ToppedWord live word
@@ -173,9 +169,48 @@ pub guess-bit : (g live : ℕ) → g ≡ live + 1 → live < 63 → (k : ℕ) �
 guess-bit g live e l k =
     ap (λ (x : ℕ). bit x k) (one-shl g (omega arith)) ∙ bit-pow g k ∙ eqb-sym g k ∙ ap (eqb k) (e ∙ add-one live)
 
-pub guess-topped : (g live : ℕ) → g ≡ live + 1 → live < 63 → ToppedWord g (1 * 2 ^ g % 2 ^ 64)
-guess-topped g live e l k i = guess-bit g live e l k ∙ eqb-differ k (suc live) (λ j. absurd (omega arith))
-
 -- No form has a bit above one guess more.
 pub topped-more : (n live more : ℕ) (forms : List ℕ) → live ≤ more → Topped n live forms → Topped n more forms
 topped-more n live more forms l top q k i = top q k (omega arith)
+
+-- The side's word is the form that the machine gives the qubit.
+pub peel-turned : (n : ℕ) (c : RowLists) (p r live word : ℕ) (row : Row) (old new : Working) (t : Taken) → row ≡ rowAt (c .flat) (c .ends) r
+    → IsSide n (old .forms) (check (eqb (getD (c .lit) r 0) 1) row) word → Settled n c p 2 word live old new t → Turned n c live (peelBy n c p r) old new t
+unfolding settleBy peelBy
+peel-turned n c p r live word row old new t e s v =
+    record {
+      stays = v .stays;
+      turns = λ good ready.
+          let w = v .turns good ready (side-topped n live (old .forms) (check (eqb (getD (c .lit) r 0) 1) row) word (ready .topped) s) live in
+          record {
+            comes = λ turns.
+                subst (λ (f : Form). StageAs n new (suc turns) t
+                (settle (rowChecks c) (stateOf n (old .marks) (old .forms) live turns) p 2 (record { form = put p f (formsOf n (old .forms)); live = live })))
+                (fun-ext (subst (λ (x : Row). (k : ℕ) → bit word k ≡ side (withLive n (old .forms) 0) (check (eqb (getD (c .lit) r 0) 1) x) k) e (s .bits))) (w .comes turns);
+            ready = w .ready;
+            degrees = w .degrees;
+          };
+    }
+
+pub guess-turned : (n : ℕ) (c : RowLists) (p live newest word : ℕ) (old new : Working) (t : Taken) → newest ≡ live + 1 → live < 63
+    → word ≡ 1 * 2 ^ newest % 2 ^ 64 → Settled n c p 3 word newest old new t → Turned n c live (guessBy n c p) old new t
+unfolding settleBy guessBy
+guess-turned n c p live newest word old new t e l i v =
+    record {
+      stays = v .stays;
+      turns = λ good ready.
+          let more : Ready n c newest old = record { topped = topped-more n live newest (old .forms) (omega arith) (ready .topped); kept = ready .kept; on = ready .on } in
+          let bits : (k : ℕ) → bit word k ≡ eqb k (suc live) = λ k. ap (λ (x : ℕ). bit x k) i ∙ guess-bit newest live e l k in
+          let w = v .turns good more (λ k j. bits k ∙ eqb-differ k (suc live) (λ u. absurd (omega arith))) live in
+          record {
+            comes = λ turns.
+                subst (λ (f : Form). StageAs n new (suc turns) t
+                (settle (rowChecks c) (stateOf n (old .marks) (old .forms) live turns) p 3 (record { form = put p f (formsOf n (old .forms)); live = suc live })))
+                (fun-ext bits)
+                (subst (λ (m : ℕ). StageAs n new (suc turns) t
+                (settle (rowChecks c) (stateOf n (old .marks) (old .forms) live turns) p 3 (record { form = put p (bit word) (formsOf n (old .forms)); live = m })))
+                (e ∙ add-one live) (w .comes turns));
+            ready = w .ready;
+            degrees = w .degrees;
+          };
+    }

@@ -1,8 +1,11 @@
 -- What the functions of a turn do to the lists.
---   RowLists    the lists of the half's rows and readings, with its first row and their count
---   rowChecks   the half's checks
+--   Working     the lists of a half at work: marks, forms, and what is kept of its rows
+--   GoodRows    the half's rows are strictly ascending and below n
+--   Ready       the forms have no bit above the live guesses, and what is kept of the rows is so
 --   StageAs     the lists and the answer are a stage of the machine
---   Turned      one turn: the stage that it leads to, and elements past n as they were
+--   Turns       of lists that are ready, the stage that a turn leads to, with lists that are ready again
+--   Turned      the same, and elements past n as they were, whatever the lists hold
+--   ClosedRows  the rows on a settled qubit that it closed, taken up
 --   Moved       a turn, or that the budget is spent
 --   EndedAs     the lists and the answer are the end of a half
 use mathlib.Core.Path.{_≡_}
@@ -12,50 +15,76 @@ use mathlib.Core.List.{List}
 use Prim.Native.Nat.{ℕ, suc, _≤_, _<_}
 use lib.Dec.{eqb}
 use lib.ListN.{length, getD}
-use Rattle.binary.specs.Meaning.{Qubits, Check}
+use Rattle.binary.specs.Bits.{below}
+use Rattle.binary.specs.Meaning.{Qubits, Check, All}
 use Rattle.binary.specs.Words.{bit}
+use Rattle.code.specs.Lists.{rowsFrom}
+use Rattle.code.specs.Tests.{Ascending}
 use Rattle.forms.specs.declared.Taken.{Taken}
 use Rattle.forms.specs.declared.Taken.the-variants.{Failed, Live}
+use Rattle.kept.specs.Rows.{RowLists, checkAt, rowChecks}
+use Rattle.kept.specs.Kept.{Kept, RowsOn}
 use Rattle.turns.specs.declared.Move.{Move}
 use Rattle.turns.specs.declared.Move.the-variants.{Spent, Made}
 use Rattle.turns.specs.declared.Ended.{Ended}
-use Rattle.machine.specs.Machine.{State, Stage, on, failed, End, put, isOpen, dangling, some?, most, settle, peel, guess, turn, run}
+use Rattle.machine.specs.Machine.{Forms, State, Stage, on, failed, End, put, isOpen, dangling, some?, most, takeUpAll, settle, peel, guess, turn, run}
 use Rattle.machine.specs.Report.{none?}
 use Rattle.machine.specs.Lists.{view, formsOf}
-use Rattle.forms.specs.Forms.{Topped}
-use Rattle.turns.specs.Lists.{stateOf, checkAt, checksFrom}
+use Rattle.forms.specs.Forms.{withLive, Topped, TakenAs}
+use Rattle.turns.specs.Lists.{stateOf, closedAt?}
+use Rattle.turns.specs.Scans.{degreeOf}
 
-pub record RowLists : Type 0 where
-  pub flat : List ℕ
-  pub ends : List ℕ
-  pub lit : List ℕ
-  pub first : ℕ
-  pub count : ℕ
-
-abbrev pub rowChecks : RowLists → List Check
-rowChecks c = checksFrom (c .flat) (c .ends) (c .lit) (c .first) (c .count)
-
--- The marks and forms of a half.
-pub record Qubitwise : Type 0 where
+pub record Working : Type 0 where
   pub marks : List ℕ
   pub forms : List ℕ
+  pub work : List ℕ
 
-abbrev pub StageAs : ℕ → Qubitwise → ℕ → Taken → Stage → Type 0
+abbrev pub GoodRows : ℕ → RowLists → Type 0
+GoodRows n c = All (Ascending n) (rowsFrom (c .flat) (c .ends) (c .first) (c .count))
+
+-- Lengths, and elements past n, stay.
+pub record Stays (n : ℕ) (old new : Working) : Type 0 where
+  pub marks-long : length (new .marks) ≡ length (old .marks)
+  pub forms-long : length (new .forms) ≡ length (old .forms)
+  pub work-long : length (new .work) ≡ length (old .work)
+  pub marks-rest : (q : ℕ) → n ≤ q → getD (new .marks) q 0 ≡ getD (old .marks) q 0
+  pub forms-rest : (q : ℕ) → n ≤ q → getD (new .forms) q 0 ≡ getD (old .forms) q 0
+
+pub record Ready (n : ℕ) (c : RowLists) (live : ℕ) (w : Working) : Type 0 where
+  pub topped : Topped n live (w .forms)
+  pub kept : Kept (isOpen (view n (w .marks))) c (w .work)
+  pub on : RowsOn (isOpen (view n (w .marks))) c (w .work)
+
+abbrev pub StageAs : ℕ → Working → ℕ → Taken → Stage → Type 0
 StageAs n l turns t (failed st) = (t ≡ Failed) × (view n (l .marks) ≡ st .mark) × (turns ≡ st .turns) × (st .forms .live ≡ 0)
 StageAs n l turns t (on st) =
     (t ≡ Live (st .forms .live)) × (stateOf n (l .marks) (l .forms) (st .forms .live) turns ≡ st) × Topped n (st .forms .live) (l .forms)
 
--- Lengths, and elements past n, stay.
-pub record Kept (n : ℕ) (old new : Qubitwise) : Type 0 where
-  pub marks-long : length (new .marks) ≡ length (old .marks)
-  pub forms-long : length (new .forms) ≡ length (old .forms)
-  pub marks-rest : (q : ℕ) → n ≤ q → getD (new .marks) q 0 ≡ getD (old .marks) q 0
-  pub forms-rest : (q : ℕ) → n ≤ q → getD (new .forms) q 0 ≡ getD (old .forms) q 0
+----------------------------------------------------------------------
+-- A qubit settled
+
+-- The qubit p of the open ones is settled: of the rows on it those that have no open qubit left are taken up.
+pub record TakenRows (n : ℕ) (c : RowLists) (p live : ℕ) (o : Qubits) (forms forms′ work′ : List ℕ) (t : Taken) : Type 0 where
+  pub taken : TakenAs n forms′ (takeUpAll (closedAt? false p (put p false o)) (rowChecks c) (withLive n forms live)) t
+  pub kept : (k : ℕ) → t ≡ Live k → Kept (put p false o) c work′
+
+pub record ClosedRows (n : ℕ) (c : RowLists) (p live : ℕ) (forms forms′ work work′ : List ℕ) (t : Taken) : Type 0 where
+  pub forms-long : length forms′ ≡ length forms
+  pub forms-rest : (q : ℕ) → n ≤ q → getD forms′ q 0 ≡ getD forms q 0
+  pub work-long : length work′ ≡ length work
+  pub below : (k : ℕ) → k < 8192 → getD work′ k 0 ≡ getD work k 0
+  pub past : (k : ℕ) → 9216 ≤ k → getD work′ k 0 ≡ getD work k 0
+  pub rows : GoodRows n c → (o : Qubits) → o p ≡ true → Kept o c work → RowsOn o c work → Topped n live forms → TakenRows n c p live o forms forms′ work′ t
 
 -- However many turns were made before.
-pub record Turned (n live : ℕ) (next : State → Stage) (old new : Qubitwise) (t : Taken) : Type 0 where
-  pub kept : Kept n old new
+pub record Turns (n : ℕ) (c : RowLists) (live : ℕ) (next : State → Stage) (old new : Working) (t : Taken) : Type 0 where
   pub comes : (turns : ℕ) → StageAs n new (suc turns) t (next (stateOf n (old .marks) (old .forms) live turns))
+  pub ready : (k : ℕ) → t ≡ Live k → Ready n c k new
+  pub degrees : (q : ℕ) → degreeOf (new .work) q ≡ degreeOf (old .work) q
+
+pub record Turned (n : ℕ) (c : RowLists) (live : ℕ) (next : State → Stage) (old new : Working) (t : Taken) : Type 0 where
+  pub stays : Stays n old new
+  pub turns : GoodRows n c → Ready n c live old → Turns n c live next old new t
 
 -- The word has no bit above the live guesses.
 abbrev pub ToppedWord : ℕ → ℕ → Type 0
@@ -64,6 +93,11 @@ ToppedWord live word = (k : ℕ) → live < k → bit word k ≡ false
 -- Qubit p gets mark m and the form of a word.
 unfoldable pub settleBy : ℕ → RowLists → ℕ → ℕ → ℕ → ℕ → State → Stage
 settleBy n c p m word live st = settle (rowChecks c) st p m (record { form = put p (bit word) (st .forms .form); live = live })
+
+-- So many guesses were live before, and are now.
+pub record Settled (n : ℕ) (c : RowLists) (p m word live : ℕ) (old new : Working) (t : Taken) : Type 0 where
+  pub stays : Stays n old new
+  pub turns : GoodRows n c → Ready n c live old → ToppedWord live word → (before : ℕ) → Turns n c before (settleBy n c p m word live) old new t
 
 -- Row r gives its open qubit p its side.
 unfoldable pub peelBy : ℕ → RowLists → ℕ → ℕ → State → Stage
@@ -77,32 +111,43 @@ guessBy n c p st = guess (rowChecks c) st p
 
 -- The rule that a list of counts gives.
 abbrev pub mostBy : ℕ → List ℕ → Qubits → Option ℕ
-mostBy n degrees = most (λ q. getD degrees q 0) n
+mostBy n work = most (degreeOf work) n
 
 unfoldable pub turnBy : ℕ → RowLists → List ℕ → State → Stage
-turnBy n c degrees = turn (rowChecks c) n (mostBy n degrees)
+turnBy n c work = turn (rowChecks c) n (mostBy n work)
 
 -- No row dangles, and the live guesses equal the budget.
 abbrev pub spent? : ℕ → RowLists → ℕ → ℕ → List ℕ → Bool
 spent? n c budget live marks = not (some? (dangling (isOpen (view n marks)) (rowChecks c))) && eqb live budget
 
-unfoldable pub Moved : ℕ → RowLists → List ℕ → ℕ → ℕ → Qubitwise → Qubitwise → Move → Type 0
-Moved n c degrees budget live old new Spent = (new ≡ old) × (spent? n c budget live (old .marks) ≡ true)
-Moved n c degrees budget live old new (Made t) =
-    (spent? n c budget live (old .marks) ≡ false) × Turned n live (turnBy n c degrees) old new t
+abbrev pub someOpen : ℕ → List ℕ → Type 0
+someOpen n marks = below n (λ q. not (isOpen (view n marks) q)) ≡ false
+
+abbrev pub MovedBy : ℕ → RowLists → ℕ → ℕ → Working → Working → Move → Type 0
+MovedBy n c budget live old new Spent = (new ≡ old) × (spent? n c budget live (old .marks) ≡ true)
+MovedBy n c budget live old new (Made t) = (spent? n c budget live (old .marks) ≡ false) × Turns n c live (turnBy n c (old .work)) old new t
+
+pub record Moved (n : ℕ) (c : RowLists) (budget live : ℕ) (old new : Working) (m : Move) : Type 0 where
+  pub stays : Stays n old new
+  pub moves : GoodRows n c → Ready n c live old → someOpen n (old .marks) → live ≤ budget → MovedBy n c budget live old new m
 
 ----------------------------------------------------------------------
 -- The end
 
-pub record EndedAs (n : ℕ) (old new : Qubitwise) (r : Ended) (e : End) : Type 0 where
-  pub kept : Kept n old new
+-- At any end but none, what is kept of the rows is a fresh count over the marks.
+pub record EndedAs (n : ℕ) (c : RowLists) (new : Working) (r : Ended) (e : End) : Type 0 where
   pub word : r .word ≡ e .word
   pub turns : r .turns ≡ e .state .turns
   pub live : r .live ≡ e .state .forms .live
   pub marks : view n (new .marks) ≡ e .state .mark
   pub forms : none? (e .word) ≡ false → formsOf n (new .forms) ≡ e .state .forms .form
+  pub kept : none? (e .word) ≡ false → Kept (isOpen (view n (new .marks))) c (new .work)
 
 -- The half goes on from these lists, so many turns made, at most m more.
-unfoldable pub runFrom : ℕ → RowLists → List ℕ → ℕ → ℕ → ℕ → Qubitwise → ℕ → ℕ → End
+unfoldable pub runFrom : ℕ → RowLists → List ℕ → ℕ → ℕ → ℕ → Working → ℕ → ℕ → End
 runFrom n c degrees budget limit m l live turns =
     run (rowChecks c) n (mostBy n degrees) budget limit m (on (stateOf n (l .marks) (l .forms) live turns))
+
+pub record RunEnds (n : ℕ) (c : RowLists) (budget limit live : ℕ) (old new : Working) (r : Ended) : Type 0 where
+  pub stays : Stays n old new
+  pub ends : GoodRows n c → Ready n c live old → live ≤ budget → EndedAs n c new r (runFrom n c (old .work) budget limit (suc limit) old live 0)

@@ -2,66 +2,37 @@
 ghost use mathlib.Core.Path.{_≡_};
 ghost use Prim.Native.Nat.{_+_, _≤_};
 ghost use lib.ListN.{length};
-ghost use Rattle.turns.specs.Runs.{TookClosed, TurnedHalf, reportBy, RanHalf};
+ghost use Rattle.turns.specs.Runs.{TurnedHalf, reportBy, RanHalf};
 use crate::Ended;
 use crate::closed;
 use crate::guesses;
 use crate::rows;
 use crate::turns;
-use code::Qubit;
+use code::Rows;
 use forms::Taken;
 use machine::HalfReport;
 use machine::Word;
 
-// No guess is live, and the closed rows are taken up.
-fn take_up_closed(
-    n: usize,
-    flat: &[u16],
-    ends: &[u16],
-    lit: &[u8],
-    first: u16,
-    count: u16,
-    marks: &[u8],
-    forms: &mut [u64],
-) -> Taken
-    requires { ⌜ (n ≤ length (now forms)) × (n ≤ length (now marks)) × (first + count ≤ length (now lit)) × (first + count ≤ 1024) ⌝ }
-    ensures { λ t. ⌜ TookClosed n (record { flat = now (flat .entry); ends = now (ends .entry); lit = now (lit .entry); first = first; count = count }) (now (marks .entry)) (now (forms .entry)) (now (forms .exit)) t ⌝ }
-{
-    lists::clear_words(forms, 0, n);
-    closed::take_up_rows(
-        n,
-        flat,
-        ends,
-        lit,
-        first,
-        count,
-        marks,
-        true,
-        Qubit(0),
-        0,
-        forms,
-    )
-}
-
-// The closed rows, then the turns.
+// What is kept of the rows, the closed ones taken up, then the turns.
 fn turn_half(
-    n: usize,
+    n: u16,
     flat: &[u16],
     ends: &[u16],
     lit: &[u8],
-    first: u16,
-    count: u16,
+    rows: Rows,
     budget: u8,
     limit: u16,
     work: &mut [u64],
     marks: &mut [u8],
     forms: &mut [u64],
 ) -> Ended
-    requires { ⌜ (n ≤ 1024) × (count ≤ 512) × (first ≤ 512) × (8192 ≤ length (now work)) × (budget ≤ 63) ⌝ }
-    requires { ⌜ (first + count ≤ length (now lit)) × (n ≤ length (now marks)) × (n ≤ length (now forms)) ⌝ }
-    ensures { λ r. ⌜ (length (now (work .exit)) ≡ length (now (work .entry))) × TurnedHalf n (record { flat = now (flat .entry); ends = now (ends .entry); lit = now (lit .entry); first = first; count = count }) budget limit (record { marks = now (marks .entry); forms = now (forms .entry) }) (record { marks = now (marks .exit); forms = now (forms .exit) }) r ⌝ }
+    requires { ⌜ (n ≤ 1024) × (n ≤ length (now marks)) × (n ≤ length (now forms)) × (10240 ≤ length (now work)) × (rows .count ≤ 512) × (rows .first .0 + rows .count ≤ length (now lit)) × (rows .first .0 + rows .count ≤ 1024) ⌝ }
+    requires { ⌜ budget ≤ 63 ⌝ }
+    ensures { λ r. ⌜ TurnedHalf n (record { flat = now (flat .entry); ends = now (ends .entry); lit = now (lit .entry); first = rows .first .0; count = rows .count }) budget limit (record { marks = now (marks .entry); forms = now (forms .entry); work = now (work .entry) }) (record { marks = now (marks .exit); forms = now (forms .exit); work = now (work .exit) }) r ⌝ }
 {
-    let taken = take_up_closed(n, flat, ends, lit, first, count, marks, forms);
+    let size = n as usize;
+    kept::fill(n, flat, ends, lit, rows, marks, work);
+    let taken = closed::take_up_closed(size, flat, ends, lit, rows, work, forms);
     let Taken::Live(live) = taken else {
         return Ended {
             word: Word::None,
@@ -69,15 +40,14 @@ fn turn_half(
             live: 0,
         };
     };
-    guesses::count_rows(n, flat, ends, lit, first, count, work);
-    let unsettled = rows::count_marks(n, marks, 4);
+    guesses::count_rows(size, flat, ends, lit, rows, work);
+    let unsettled = rows::count_marks(size, marks, 4);
     turns::run(
-        n,
+        size,
         flat,
         ends,
         lit,
-        first,
-        count,
+        rows,
         budget as u16,
         limit,
         live,
@@ -111,31 +81,18 @@ pub fn run_marked(
     flat: &[u16],
     ends: &[u16],
     lit: &[u8],
-    first: u16,
-    count: u16,
+    rows: Rows,
     budget: u8,
     limit: u16,
     work: &mut [u64],
     marks: &mut [u8],
     forms: &mut [u64],
 ) -> HalfReport
-    requires { ⌜ (n ≤ 1024) × (count ≤ 512) × (first ≤ 512) × (8192 ≤ length (now work)) × (budget ≤ 63) ⌝ }
-    requires { ⌜ (first + count ≤ length (now lit)) × (n ≤ length (now marks)) × (n ≤ length (now forms)) ⌝ }
-    ensures { λ r. ⌜ (length (now (work .exit)) ≡ length (now (work .entry))) × RanHalf n (record { flat = now (flat .entry); ends = now (ends .entry); lit = now (lit .entry); first = first; count = count }) budget limit (record { marks = now (marks .entry); forms = now (forms .entry) }) (record { marks = now (marks .exit); forms = now (forms .exit) }) r ⌝ }
+    requires { ⌜ (n ≤ 1024) × (n ≤ length (now marks)) × (n ≤ length (now forms)) × (10240 ≤ length (now work)) × (rows .count ≤ 512) × (rows .first .0 + rows .count ≤ length (now lit)) × (rows .first .0 + rows .count ≤ 1024) ⌝ }
+    requires { ⌜ budget ≤ 63 ⌝ }
+    ensures { λ r. ⌜ RanHalf n (record { flat = now (flat .entry); ends = now (ends .entry); lit = now (lit .entry); first = rows .first .0; count = rows .count }) budget limit (record { marks = now (marks .entry); forms = now (forms .entry); work = now (work .entry) }) (record { marks = now (marks .exit); forms = now (forms .exit); work = now (work .exit) }) r ⌝ }
 {
     let size = n as usize;
-    let ended = turn_half(
-        size,
-        flat,
-        ends,
-        lit,
-        first,
-        count,
-        budget,
-        limit,
-        work,
-        marks,
-        forms,
-    );
+    let ended = turn_half(n, flat, ends, lit, rows, budget, limit, work, marks, forms);
     report(size, ended, marks)
 }

@@ -10,7 +10,7 @@ mod rows;
 mod turns;
 
 use code::Qubit;
-use code::Row;
+use code::Rows;
 use forms::Taken;
 use machine::HalfReport;
 use machine::Word;
@@ -19,19 +19,6 @@ use machine::Word;
 pub enum RunAnswer {
     Refused,
     Over(HalfReport),
-}
-
-// What a scan of a row's open qubits finds.
-enum Open {
-    Closed,
-    One(Qubit),
-    More,
-}
-
-// The lowest dangling row and its open qubit.
-enum Dangling {
-    NoRow,
-    At(Row, Qubit),
 }
 
 // The qubit that the guess rule names.
@@ -57,54 +44,40 @@ struct Ended {
 fn fits(
     n: u16,
     lit: &[u8],
-    first: u16,
-    count: u16,
+    rows: Rows,
     budget: u8,
     work: &[u64],
     marks: &[u8],
     forms: &[u64],
 ) -> bool
-    ensures { λ r. ⌜ r ≡ fits? n (length (now (lit .entry))) first count budget (length (now (work .entry))) (length (now (marks .entry))) (length (now (forms .entry))) ⌝ }
+    ensures { λ r. ⌜ r ≡ fits? n (length (now (lit .entry))) (rows .first .0) (rows .count) budget (length (now (work .entry))) (length (now (marks .entry))) (length (now (forms .entry))) ⌝ }
 {
     let size = n as usize;
-    let last = first as usize + count as usize;
-    let small = (n <= 1024) & (count <= 512) & (first <= 512) & (budget <= 63);
-    let long = small & (8192 <= work.len()) & (last <= lit.len());
+    let first = rows.first;
+    let last = first.0 as usize + rows.count as usize;
+    let small = (n <= 1024) & (rows.count <= 512) & (first.0 <= 512) & (budget <= 63);
+    let long = small & (10240 <= work.len()) & (last <= lit.len());
     long & (size <= marks.len()) & (size <= forms.len())
 }
 
 // From the marks of the start, the closed rows are taken up; then turns are made until a test before a turn ends the half, or a row that is
-// taken up. The half's rows are `count` from row `first` on; marks and forms are left as the half ended.
+// taken up. Marks and forms are left as the half ended, and the work list with what is kept of the rows.
 pub fn run_turns(
     n: u16,
     flat: &[u16],
     ends: &[u16],
     lit: &[u8],
-    first: Row,
-    count: u16,
+    rows: Rows,
     budget: u8,
     limit: u16,
     work: &mut [u64],
     marks: &mut [u8],
     forms: &mut [u64],
 ) -> RunAnswer
-    ensures { λ r. ⌜ Runs n (record { flat = now (flat .entry); ends = now (ends .entry); lit = now (lit .entry); first = first .0; count = count }) budget limit (now (work .entry)) (now (work .exit)) (record { marks = now (marks .entry); forms = now (forms .entry) }) (record { marks = now (marks .exit); forms = now (forms .exit) }) r ⌝ }
+    ensures { λ r. ⌜ Runs n (record { flat = now (flat .entry); ends = now (ends .entry); lit = now (lit .entry); first = rows .first .0; count = rows .count }) budget limit (record { marks = now (marks .entry); forms = now (forms .entry); work = now (work .entry) }) (record { marks = now (marks .exit); forms = now (forms .exit); work = now (work .exit) }) r ⌝ }
 {
-    let own = first.0;
-    if !fits(n, lit, own, count, budget, work, marks, forms) {
+    if !fits(n, lit, rows, budget, work, marks, forms) {
         return RunAnswer::Refused;
     }
-    RunAnswer::Over(half::run_marked(
-        n,
-        flat,
-        ends,
-        lit,
-        own,
-        count,
-        budget,
-        limit,
-        work,
-        marks,
-        forms,
-    ))
+    RunAnswer::Over(half::run_marked(n, flat, ends, lit, rows, budget, limit, work, marks, forms))
 }

@@ -1,18 +1,15 @@
 // The turns of a half.
 ghost use mathlib.Core.Path.{_≡_};
-ghost use mathlib.Core.Bool.{true, false, not};
-ghost use Prim.Native.Nat.{ℕ, suc, _+_, _≤_, _<_};
+ghost use mathlib.Core.Bool.{true, false};
+ghost use Prim.Native.Nat.{_+_, _≤_, _<_};
 ghost use lib.Dec.{eqb};
 ghost use lib.ListN.{length};
-ghost use Rattle.binary.specs.Bits.{below};
 ghost use Rattle.machine.specs.Machine.{isOpen};
 ghost use Rattle.machine.specs.Words;
 ghost use Rattle.machine.specs.Report.{marked};
 ghost use Rattle.machine.specs.Lists.{view};
-ghost use Rattle.forms.specs.Forms.{Topped};
-ghost use Rattle.turns.specs.Turns.{Turned, ToppedWord, settleBy, peelBy, guessBy, Moved, EndedAs, runFrom};
+ghost use Rattle.turns.specs.Turns.{Turned, Settled, peelBy, guessBy, Moved, RunEnds};
 use crate::Choice;
-use crate::Dangling;
 use crate::Ended;
 use crate::Move;
 use crate::closed;
@@ -20,6 +17,7 @@ use crate::guesses;
 use crate::rows;
 use code::Qubit;
 use code::Row;
+use code::Rows;
 use forms::Taken;
 use machine::Word;
 
@@ -29,36 +27,23 @@ fn settle(
     flat: &[u16],
     ends: &[u16],
     lit: &[u8],
-    first: u16,
-    count: u16,
+    rows: Rows,
     p: Qubit,
     mark: u8,
     form: u64,
     live: u16,
+    work: &mut [u64],
     marks: &mut [u8],
     forms: &mut [u64],
 ) -> Taken
-    requires { ⌜ (n ≤ length (now marks)) × (n ≤ length (now forms)) × (first + count ≤ length (now lit)) × (first + count ≤ 1024) ⌝ }
+    requires { ⌜ (n ≤ 1024) × (n ≤ length (now marks)) × (n ≤ length (now forms)) × (10240 ≤ length (now work)) × (rows .count ≤ 512) × (rows .first .0 + rows .count ≤ length (now lit)) × (rows .first .0 + rows .count ≤ 1024) ⌝ }
     requires { ⌜ (p .0 < n) × (isOpen (view n (now marks)) (p .0) ≡ true) × (eqb mark 4 ≡ false) ⌝ }
-    requires { ⌜ Topped n live (now forms) × ToppedWord live form ⌝ }
-    ensures { λ t. ⌜ ((old : ℕ) → Turned n old (settleBy n (record { flat = now (flat .entry); ends = now (ends .entry); lit = now (lit .entry); first = first; count = count }) (p .0) mark form live) (record { marks = now (marks .entry); forms = now (forms .entry) }) (record { marks = now (marks .exit); forms = now (forms .exit) }) t) ⌝ }
+    ensures { λ t. ⌜ Settled n (record { flat = now (flat .entry); ends = now (ends .entry); lit = now (lit .entry); first = rows .first .0; count = rows .count }) (p .0) mark form live (record { marks = now (marks .entry); forms = now (forms .entry); work = now (work .entry) }) (record { marks = now (marks .exit); forms = now (forms .exit); work = now (work .exit) }) t ⌝ }
 {
     let at = p.0 as usize;
     marks[at] = mark;
     forms[at] = form;
-    closed::take_up_rows(
-        n,
-        flat,
-        ends,
-        lit,
-        first,
-        count,
-        marks,
-        false,
-        p,
-        live,
-        forms,
-    )
+    closed::close_rows(n, flat, ends, lit, rows, p, live, work, forms)
 }
 
 // The dangling row r gives its open qubit p the row's side.
@@ -67,17 +52,17 @@ fn peel(
     flat: &[u16],
     ends: &[u16],
     lit: &[u8],
-    first: u16,
-    count: u16,
+    rows: Rows,
     r: Row,
     p: Qubit,
     live: u16,
+    work: &mut [u64],
     marks: &mut [u8],
     forms: &mut [u64],
 ) -> Taken
-    requires { ⌜ (n ≤ length (now marks)) × (n ≤ length (now forms)) × (first + count ≤ length (now lit)) × (first + count ≤ 1024) ⌝ }
-    requires { ⌜ (p .0 < n) × (isOpen (view n (now marks)) (p .0) ≡ true) × (r .0 < first + count) × Topped n live (now forms) ⌝ }
-    ensures { λ t. ⌜ Turned n live (peelBy n (record { flat = now (flat .entry); ends = now (ends .entry); lit = now (lit .entry); first = first; count = count }) (p .0) (r .0)) (record { marks = now (marks .entry); forms = now (forms .entry) }) (record { marks = now (marks .exit); forms = now (forms .exit) }) t ⌝ }
+    requires { ⌜ (n ≤ 1024) × (n ≤ length (now marks)) × (n ≤ length (now forms)) × (10240 ≤ length (now work)) × (rows .count ≤ 512) × (rows .first .0 + rows .count ≤ length (now lit)) × (rows .first .0 + rows .count ≤ 1024) ⌝ }
+    requires { ⌜ (p .0 < n) × (isOpen (view n (now marks)) (p .0) ≡ true) × (r .0 < length (now lit)) ⌝ }
+    ensures { λ t. ⌜ Turned n (record { flat = now (flat .entry); ends = now (ends .entry); lit = now (lit .entry); first = rows .first .0; count = rows .count }) live (peelBy n (record { flat = now (flat .entry); ends = now (ends .entry); lit = now (lit .entry); first = rows .first .0; count = rows .count }) (p .0) (r .0)) (record { marks = now (marks .entry); forms = now (forms .entry); work = now (work .entry) }) (record { marks = now (marks .exit); forms = now (forms .exit); work = now (work .exit) }) t ⌝ }
 {
     let row = code::row_at(flat, ends, r);
     let at = r.0 as usize;
@@ -87,12 +72,12 @@ fn peel(
         flat,
         ends,
         lit,
-        first,
-        count,
+        rows,
         p,
         2,
         side,
         live,
+        work,
         marks,
         forms,
     )
@@ -104,16 +89,16 @@ fn guess(
     flat: &[u16],
     ends: &[u16],
     lit: &[u8],
-    first: u16,
-    count: u16,
+    rows: Rows,
     p: Qubit,
     live: u16,
+    work: &mut [u64],
     marks: &mut [u8],
     forms: &mut [u64],
 ) -> Taken
-    requires { ⌜ (n ≤ length (now marks)) × (n ≤ length (now forms)) × (first + count ≤ length (now lit)) × (first + count ≤ 1024) ⌝ }
-    requires { ⌜ (p .0 < n) × (isOpen (view n (now marks)) (p .0) ≡ true) × (live < 63) × Topped n live (now forms) ⌝ }
-    ensures { λ t. ⌜ Turned n live (guessBy n (record { flat = now (flat .entry); ends = now (ends .entry); lit = now (lit .entry); first = first; count = count }) (p .0)) (record { marks = now (marks .entry); forms = now (forms .entry) }) (record { marks = now (marks .exit); forms = now (forms .exit) }) t ⌝ }
+    requires { ⌜ (n ≤ 1024) × (n ≤ length (now marks)) × (n ≤ length (now forms)) × (10240 ≤ length (now work)) × (rows .count ≤ 512) × (rows .first .0 + rows .count ≤ length (now lit)) × (rows .first .0 + rows .count ≤ 1024) ⌝ }
+    requires { ⌜ (p .0 < n) × (isOpen (view n (now marks)) (p .0) ≡ true) × (live < 63) ⌝ }
+    ensures { λ t. ⌜ Turned n (record { flat = now (flat .entry); ends = now (ends .entry); lit = now (lit .entry); first = rows .first .0; count = rows .count }) live (guessBy n (record { flat = now (flat .entry); ends = now (ends .entry); lit = now (lit .entry); first = rows .first .0; count = rows .count }) (p .0)) (record { marks = now (marks .entry); forms = now (forms .entry); work = now (work .entry) }) (record { marks = now (marks .exit); forms = now (forms .exit); work = now (work .exit) }) t ⌝ }
 {
     let newest = live + 1;
     settle(
@@ -121,47 +106,66 @@ fn guess(
         flat,
         ends,
         lit,
-        first,
-        count,
+        rows,
         p,
         3,
         1 << newest,
         newest,
+        work,
         marks,
         forms,
     )
 }
 
 // One turn: the lowest dangling row gives its open qubit the row's side; if no row dangles, the open qubit on most rows becomes a new live
-// guess, unless the budget is spent.
+// guess, unless the budget is spent. That a dangling row has no open qubit is tested for altered lists alone.
 fn make_turn(
     n: usize,
     flat: &[u16],
     ends: &[u16],
     lit: &[u8],
-    first: u16,
-    count: u16,
+    rows: Rows,
     budget: u16,
     live: u16,
-    degrees: &[u64],
+    work: &mut [u64],
     marks: &mut [u8],
     forms: &mut [u64],
 ) -> Move
-    requires { ⌜ (n ≤ length (now marks)) × (n ≤ length (now forms)) × (first + count ≤ length (now lit)) × (first + count ≤ 1024) × (n ≤ length (now degrees)) × (n ≤ 1024) ⌝ }
-    requires { ⌜ (live ≤ budget) × (budget ≤ 63) × Topped n live (now forms) × (below n (λ q. not (isOpen (view n (now marks)) q)) ≡ false) ⌝ }
-    ensures { λ m. ⌜ Moved n (record { flat = now (flat .entry); ends = now (ends .entry); lit = now (lit .entry); first = first; count = count }) (now (degrees .entry)) budget live (record { marks = now (marks .entry); forms = now (forms .entry) }) (record { marks = now (marks .exit); forms = now (forms .exit) }) m ⌝ }
+    requires { ⌜ (n ≤ 1024) × (n ≤ length (now marks)) × (n ≤ length (now forms)) × (10240 ≤ length (now work)) × (rows .count ≤ 512) × (rows .first .0 + rows .count ≤ length (now lit)) × (rows .first .0 + rows .count ≤ 1024) ⌝ }
+    requires { ⌜ budget ≤ 63 ⌝ }
+    ensures { λ m. ⌜ Moved n (record { flat = now (flat .entry); ends = now (ends .entry); lit = now (lit .entry); first = rows .first .0; count = rows .count }) budget live (record { marks = now (marks .entry); forms = now (forms .entry); work = now (work .entry) }) (record { marks = now (marks .exit); forms = now (forms .exit); work = now (work .exit) }) m ⌝ }
 {
-    let found = rows::find_dangling(n, flat, ends, lit, first, count, marks);
-    if let Dangling::At(r, p) = found {
-        return Move::Made(peel(n, flat, ends, lit, first, count, r, p, live, marks, forms));
+    let i = kept::lowest(rows.count, work);
+    if i < rows.count {
+        let first = rows.first;
+        let r = first.0 + i;
+        let row = code::row_at(flat, ends, Row(r));
+        let at = rows::first_open(n, row, marks);
+        if row.len() <= at {
+            return Move::Spent;
+        }
+        let p = row[at];
+        return Move::Made(peel(
+            n,
+            flat,
+            ends,
+            lit,
+            rows,
+            Row(r),
+            Qubit(p),
+            live,
+            work,
+            marks,
+            forms,
+        ));
     }
-    if live == budget {
+    if budget <= live {
         return Move::Spent;
     }
-    let Choice::Named(p) = guesses::most_open(n, marks, degrees) else {
+    let Choice::Named(p) = guesses::most_open(n, marks, work) else {
         return Move::Spent;
     };
-    Move::Made(guess(n, flat, ends, lit, first, count, p, live, marks, forms))
+    Move::Made(guess(n, flat, ends, lit, rows, p, live, work, marks, forms))
 }
 
 // A finished half is certain with no live guess, unsure otherwise.
@@ -188,19 +192,18 @@ pub fn run(
     flat: &[u16],
     ends: &[u16],
     lit: &[u8],
-    first: u16,
-    count: u16,
+    rows: Rows,
     budget: u16,
     limit: u16,
     begun: u16,
     unsettled: u16,
-    degrees: &[u64],
+    work: &mut [u64],
     marks: &mut [u8],
     forms: &mut [u64],
 ) -> Ended
-    requires { ⌜ (n ≤ length (now marks)) × (n ≤ length (now forms)) × (first + count ≤ length (now lit)) × (first + count ≤ 1024) × (n ≤ length (now degrees)) × (n ≤ 1024) ⌝ }
-    requires { ⌜ (begun ≤ budget) × (budget ≤ 63) × Topped n begun (now forms) × (unsettled ≡ marked n (view n (now marks)) 4) ⌝ }
-    ensures { λ r. ⌜ EndedAs n (record { marks = now (marks .entry); forms = now (forms .entry) }) (record { marks = now (marks .exit); forms = now (forms .exit) }) r (runFrom n (record { flat = now (flat .entry); ends = now (ends .entry); lit = now (lit .entry); first = first; count = count }) (now (degrees .entry)) budget limit (suc limit) (record { marks = now (marks .entry); forms = now (forms .entry) }) begun 0) ⌝ }
+    requires { ⌜ (n ≤ 1024) × (n ≤ length (now marks)) × (n ≤ length (now forms)) × (10240 ≤ length (now work)) × (rows .count ≤ 512) × (rows .first .0 + rows .count ≤ length (now lit)) × (rows .first .0 + rows .count ≤ 1024) ⌝ }
+    requires { ⌜ (budget ≤ 63) × (unsettled ≡ marked n (view n (now marks)) 4) ⌝ }
+    ensures { λ r. ⌜ RunEnds n (record { flat = now (flat .entry); ends = now (ends .entry); lit = now (lit .entry); first = rows .first .0; count = rows .count }) budget limit begun (record { marks = now (marks .entry); forms = now (forms .entry); work = now (work .entry) }) (record { marks = now (marks .exit); forms = now (forms .exit); work = now (work .exit) }) r ⌝ }
 {
     let mut live = begun;
     let mut turns: u16 = 0;
@@ -213,19 +216,7 @@ pub fn run(
                 live: live,
             };
         }
-        let made = make_turn(
-            n,
-            flat,
-            ends,
-            lit,
-            first,
-            count,
-            budget,
-            live,
-            degrees,
-            marks,
-            forms,
-        );
+        let made = make_turn(n, flat, ends, lit, rows, budget, live, work, marks, forms);
         let Move::Made(taken) = made else {
             return Ended {
                 word: Word::Spent,

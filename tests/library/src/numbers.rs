@@ -141,7 +141,7 @@ fn judge(header: &Numbers) -> Judged {
     let most = [QUBITS, ROWS, WEIGHT, budget, limit];
     let marks = [judged::NOT_LOST, judged::FIXED, judged::PEELED, judged::GUESSED, judged::OPEN];
     let kinds = [1, 2, 3, 4, 5, 6, 7, X_ROW, Z_ROW];
-    let lists = [16_384, 1_024, 2_048, 8_192, QUBITS, QUBITS, QUBITS];
+    let lists = [16_384, 1_024, 2_048, 10_240, QUBITS, QUBITS, QUBITS];
     for (prefix, known) in [
         ("MOST_", most.to_vec()),
         ("MARK_", marks.map(usize::from).to_vec()),

@@ -218,7 +218,7 @@ fn help(setup: &Setup) -> Checked {
 
 fn version(setup: &Setup) -> Checked {
     let actual = argument(setup, &["--version"])?;
-    same("standard output", &actual.0, "shots 2\n")?;
+    same("standard output", &actual.0, "shots 3\n")?;
     same("standard error", &actual.1, "")
 }
 

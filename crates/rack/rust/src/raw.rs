@@ -1,7 +1,7 @@
 //! What `include/rack.h` declares, number for number.
 
 /// The version of records, lists and structs.
-pub const VERSION: u16 = 2;
+pub const VERSION: u16 = 3;
 
 /// The kind of a record, its first byte. A row's is this and as many more as it has qubits.
 pub mod kind {
@@ -31,7 +31,7 @@ pub mod least {
     pub const FLAT: usize = 16384;
     pub const ENDS: usize = 1024;
     pub const SHOT: usize = 2048;
-    pub const WORK: usize = 8192;
+    pub const WORK: usize = 10240;
     pub const MARKS: usize = 1024;
     pub const FORMS: usize = 1024;
     pub const CORRECTION: usize = 1024;

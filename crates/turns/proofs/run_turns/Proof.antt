@@ -1,7 +1,7 @@
 -- `turns::run_turns` meets its contract. Assumes nothing.
-use mathlib.Core.Path.{sym, _∙_}
-use borrow.Author.Tests.{not-true, not-false}
-use Rattle.turns.proofs.Marked.{fits-out, runs-refused, runs-over}
+use Rattle.kept.specs.Rows.{RowLists}
+use Rattle.turns.specs.Turns.{Working}
+use Rattle.turns.proofs.Marked.{fits-out, does-fit, runs-refused, runs-over}
 use borrow.Author.Needs.{needs}
 use Rattle.turns.proofs.run_turns.Statement.{statement}
 use Rattle.turns.proofs.run_turns.Tie as tie
@@ -19,24 +19,31 @@ same-length-3 : tie.Need-same-length-3
 same-length-3 c = search needs
 
 returns : tie.Need-returns
-returns c = runs-refused _ _ _ _ _ _ _ (c .before .fits2 .ensures) (not-true _ (c .if1 .taken))
+returns c =
+    let old : Working = record { marks = c .before .before .before .before .before .before .before .before .before .before .before .args .marks .now; forms = c .before .before .before .before .before .before .before .before .before .before .before .args .forms .now; work = c .before .before .before .before .before .before .before .before .before .before .before .args .work .now } in
+    runs-refused _ _ _ _ old _ (c .before .fits2 .ensures) (c .if1 .taken)
 
 run-marked-requires : tie.Need-run-marked-requires
-run-marked-requires c κs = fits-out _ _ _ _ _ _ _ _ (sym (c .before .before .before .before .fits2 .ensures) ∙ not-false _ (c .before .before .before .if1 .left))
+run-marked-requires c κs =
+    let old : Working = record { marks = c .before .before .before .before .before .before .before .before .before .before .before .before .before .before .args .marks .now; forms = c .before .before .before .before .before .before .before .before .before .before .before .before .before .before .args .forms .now; work = c .before .before .before .before .before .before .before .before .before .before .before .before .before .before .args .work .now } in
+    let a = c .before .before .before .before .before .before .before .before .before .before .before .before .before .before .args in
+    let r : RowLists = record { flat = a .flat .now; ends = a .ends .now; lit = a .lit .now; first = a .rows .first .0; count = a .rows .count } in
+    let v = fits-out _ r _ old (does-fit _ r _ (c .before .before .before .before .before .before .before .before .before .before .before .before .before .before .args .limit) old _ (c .before .before .before .before .fits2 .ensures) (c .before .before .before .if1 .left)) in
+    ((v .size, v .marks, v .forms, v .work, v .few, v .lit, v .last), v .budget-few)
 
 same-length-4 : tie.Need-same-length-4
-same-length-4 c = search needs
+same-length-4 c = c .before .before .before .before .before .before .run-marked .ensures .stays .work-long
 
 same-length-5 : tie.Need-same-length-5
-same-length-5 c = search needs
+same-length-5 c = c .before .before .before .before .before .before .run-marked .ensures .stays .marks-long
 
 same-length-6 : tie.Need-same-length-6
-same-length-6 c = search needs
+same-length-6 c = c .before .before .before .before .before .before .run-marked .ensures .stays .forms-long
 
 returns-2 : tie.Need-returns-2
 returns-2 c =
-    let v = c .before .before .before .before .before .before .run-marked .ensures in
-    runs-over _ _ _ _ _ _ _ (c .before .before .before .before .before .before .before .before .before .before .before .fits2 .ensures) (not-false _ (c .before .before .before .before .before .before .before .before .before .before .if1 .left)) _ _ _ (v .0) (v .1)
+    let old : Working = record { marks = c .before .before .before .before .before .before .before .before .before .before .before .before .before .before .before .before .before .before .before .before .before .args .marks .now; forms = c .before .before .before .before .before .before .before .before .before .before .before .before .before .before .before .before .before .before .before .before .before .args .forms .now; work = c .before .before .before .before .before .before .before .before .before .before .before .before .before .before .before .before .before .before .before .before .before .args .work .now } in
+    runs-over _ _ _ _ old _ (c .before .before .before .before .before .before .before .before .before .before .before .fits2 .ensures) (c .before .before .before .before .before .before .before .before .before .before .if1 .left) _ _ (c .before .before .before .before .before .before .run-marked .ensures)
 
 pub run-turns-spec : {M : Type 1} → statement M
 run-turns-spec =

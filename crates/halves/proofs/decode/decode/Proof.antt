@@ -34,13 +34,13 @@ returns : tie.Need-returns
 returns c =
     let p = c .before .before .before .before .before .before .before .before .before .before .before .before .before .before .before .before .before .before .before .before .before .before .before .before .before .before .before .before .pre in
     let s = c .before .before .before .before .before .before .before .before .before .before .before .before .before .before .before .before .before .start .ensures in
-    turns-made _ _ _ _ _ _ _ _ _ (c .before .before .before .before .before .before .before .before .before .run-turns .ensures) (turns-fit _ _ _ _ _ _ _ _ (omega (arith, p)) (omega (arith, p)) (omega (arith, p)) (omega (arith, p)) (omega (arith, p, s .0)) (omega (arith, p)) (omega (arith, p, s .1 .long)) (omega (arith, p))) (c .before .enum-told .given .1)
+    turns-made _ _ _ _ _ _ _ (c .before .before .before .before .before .before .before .before .before .run-turns .ensures) (turns-fit _ _ _ _ _ _ _ _ (omega (arith, p)) (omega (arith, p)) (omega (arith, p)) (omega (arith, p)) (omega (arith, p, s .0)) (omega (arith, p)) (omega (arith, p, s .1 .long)) (omega (arith, p))) (c .before .enum-told .given .1)
 
 finish-requires : tie.Need-finish-requires
 finish-requires c κs =
     let p = c .before .before .before .before .before .before .before .before .before .before .before .before .before .before .before .before .before .before .before .before .before .before .before .before .before .before .before .before .before .before .before .pre in
     let s = c .before .before .before .before .before .before .before .before .before .before .before .before .before .before .before .before .before .before .before .before .start .ensures in
-    let k = c .before .before .before .before .before .before .before .before .before .before .before .before .run-turns .ensures .kept in
+    let k = c .before .before .before .before .before .before .before .before .before .before .before .before .run-turns .ensures .stays in
     (omega (arith, p, s .1 .long, k .marks-long), omega (arith, p, k .forms-long), omega (arith, p))
 
 same-length-4 : tie.Need-same-length-4
@@ -60,7 +60,7 @@ returns-2 c =
     let p = c .before .before .before .before .before .before .before .before .before .before .before .before .before .before .before .before .before .before .before .before .before .before .before .before .before .before .before .before .before .before .before .before .before .before .before .before .before .before .pre in
     let s = c .before .before .before .before .before .before .before .before .before .before .before .before .before .before .before .before .before .before .before .before .before .before .before .before .before .before .before .start .ensures in
     let v = c .before .before .before .before .before .before .before .before .before .before .before .before .before .before .before .before .before .before .before .run-turns .ensures in
-    (v .work-long ∙ s .0, half-done _ _ _ _ _ _ _ _ _ _ _ _ _ _ _ _ _ (s .1) v (turns-fit _ _ _ _ _ _ _ _ (omega (arith, p)) (omega (arith, p)) (omega (arith, p)) (omega (arith, p)) (omega (arith, p, s .0)) (omega (arith, p)) (omega (arith, p, s .1 .long)) (omega (arith, p))) (c .before .before .before .before .before .before .before .before .before .before .before .ran .given .1) (c .before .before .before .before .before .before .finish .ensures))
+    (v .stays .work-long ∙ s .0, half-done _ _ _ _ _ _ _ _ _ _ _ _ _ _ _ _ (s .1) v (turns-fit _ _ _ _ _ _ _ _ (omega (arith, p)) (omega (arith, p)) (omega (arith, p)) (omega (arith, p)) (omega (arith, p, s .0)) (omega (arith, p)) (omega (arith, p, s .1 .long)) (omega (arith, p))) (c .before .before .before .before .before .before .before .before .before .before .before .ran .given .1) (c .before .before .before .before .before .before .finish .ensures))
 
 pub decode-spec : {M : Type 1} → statement M
 decode-spec =

@@ -13,11 +13,11 @@ use Rattle.halves.proofs.decode.pack_rows.Statement.{statement}
 use Rattle.halves.proofs.decode.pack_rows.Tie as tie
 
 abbrev Inv-loop : tie.InvT-loop
-Inv-loop n flat ends other others work₀ words i₀ work i =
-    (i ≤ others) × (length work ≡ length work₀) × Packed n (wordsFor n) (rowsFrom flat ends other i) work
+Inv-loop n flat ends work₀ words first count i₀ work i =
+    (i ≤ count) × (length work ≡ length work₀) × Packed n (wordsFor n) (rowsFrom flat ends (first .0) i) work
 
 abbrev μ-loop : tie.MeasureT-loop
-μ-loop n flat ends other others work₀ words i₀ work i = others - i
+μ-loop n flat ends work₀ words first count i₀ work i = count - i
 
 words-for-requires : tie.Need-words-for-requires Inv-loop μ-loop
 words-for-requires c κs = search needs
@@ -25,8 +25,8 @@ words-for-requires c κs = search needs
 loop-holds : tie.Need-loop-holds Inv-loop μ-loop
 loop-holds c = (omega arith, search needs, packed-none _ _ _)
 
-add-t11 : tie.Need-add-t11 Inv-loop μ-loop
-add-t11 c = search needs
+add-t12 : tie.Need-add-t12 Inv-loop μ-loop
+add-t12 c = search needs
 
 row-at-requires : tie.Need-row-at-requires Inv-loop μ-loop
 row-at-requires c κs = search needs
@@ -45,12 +45,12 @@ loop-less c = search needs
 
 loop-again : tie.Need-loop-again Inv-loop μ-loop
 loop-again c =
-    let l = c .before .before .before .before .before .before .before .loop in
+    let l = c .before .before .before .before .before .before .before .before .loop in
     let p = c .before .before .put-row .ensures in
     let m = l .inv .1 in (
       omega arith,
       p .size ∙ l .inv .1,
-      pack-more _ _ _ _ _ _ _ _ _ _ _ (c .before .before .before .before .before .before .before .before .words-for .ensures) (c .before .before .before .index .ensures) (omega arith) (omega arith) (omega arith) (l .inv .2) (c .before .before .before .before .before .row-at .ensures) p,
+      pack-more _ _ _ _ _ _ _ _ _ _ _ (c .before .before .before .before .before .before .before .before .before .before .words-for .ensures) (c .before .before .before .index .ensures) (omega arith) (omega arith) (omega arith) (l .inv .2) (c .before .before .before .before .before .row-at .ensures) p,
     )
 
 same-length : tie.Need-same-length Inv-loop μ-loop
@@ -67,7 +67,7 @@ pack-rows-spec =
     μ-loop
     words-for-requires
     loop-holds
-    add-t11
+    add-t12
     row-at-requires
     index-requires
     put-row-requires

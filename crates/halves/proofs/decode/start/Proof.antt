@@ -11,6 +11,9 @@ start-marks-requires c κs = search needs
 pack-rows-requires : tie.Need-pack-rows-requires
 pack-rows-requires c κs = search needs
 
+cast-mark-fixed : tie.Need-cast-mark-fixed
+cast-mark-fixed c = search needs
+
 mark-fixed-requires : tie.Need-mark-fixed-requires
 mark-fixed-requires c κs = search needs
 
@@ -22,8 +25,8 @@ same-length-2 c = search needs
 
 returns : tie.Need-returns
 returns c =
-    let p = c .before .before .before .before .before .before .before .before .before .before .before .before .before .before .before .before .before .before .before .before .pre in
-    started _ _ _ _ _ _ _ _ _ _ _ _ _ (c .before .before .before .before .before .before .before .before .before .before .before .before .before .start-marks .ensures) (c .before .before .before .before .before .before .before .before .before .pack-rows .ensures) (c .before .before .before .before .mark-fixed .ensures) (omega (arith, p)) (omega (arith, p)) (omega (arith, p)) (omega (arith, p)) (omega (arith, p))
+    let p = c .before .before .before .before .before .before .before .before .before .before .before .before .before .before .before .before .before .before .before .before .before .pre in
+    started _ _ _ _ _ _ _ _ _ _ _ _ _ (c .before .before .before .before .before .before .before .before .before .before .before .before .before .before .start-marks .ensures) (c .before .before .before .before .before .before .before .before .before .before .pack-rows .ensures) (c .before .before .before .before .mark-fixed .ensures) (omega (arith, p)) (omega (arith, p)) (omega (arith, p)) (omega (arith, p)) (omega (arith, p))
 
 pub start-spec : {M : Type 1} → statement M
 start-spec =
@@ -31,6 +34,7 @@ start-spec =
     (tie.spec
     start-marks-requires
     pack-rows-requires
+    cast-mark-fixed
     mark-fixed-requires
     same-length
     same-length-2

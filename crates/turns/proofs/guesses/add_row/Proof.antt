@@ -1,47 +1,49 @@
 -- `turns::guesses::add_row` meets its contract: what is counted, and what is left of the row, is what it comes to. Assumes nothing.
+use borrow.Author.Needs.{needs}
 use mathlib.Core.Path.{refl}
 use mathlib.Core.Logic.{⊎-elim}
 use Prim.Native.Nat.{_-_, _≤_}
 use native.Mathlib.Omega.{arith}
-use denote.Ref.{now}
-use borrow.Author.Needs.{needs}
 use lib.ListN.{length, getD}
-use Rattle.turns.proofs.Degrees.{Adding, adding-start, adding-end, adding-room, adding-yes, adding-no}
+use Rattle.turns.proofs.Degrees.{Adding, adding-start, adding-room, adding-yes, adding-no, adding-end}
 use Rattle.turns.proofs.guesses.add_row.Statement.{statement}
 use Rattle.turns.proofs.guesses.add_row.Tie as tie
 
 abbrev Inv-loop : tie.InvT-loop
-Inv-loop n row degrees₀ i₀ degrees i = (i ≤ length row) × Adding n row degrees₀ degrees i
+Inv-loop n row work₀ i₀ work i = (i ≤ length row) × Adding n row work₀ work i
 
 abbrev μ-loop : tie.MeasureT-loop
-μ-loop n row degrees₀ i₀ degrees i = length row - i
+μ-loop n row work₀ i₀ work i = length row - i
 
 loop-holds : tie.Need-loop-holds Inv-loop μ-loop
 loop-holds c = (search needs, adding-start _ _ _)
 
-mul-at : tie.Need-mul-at Inv-loop μ-loop
-mul-at c = search needs
+mul-q : tie.Need-mul-q Inv-loop μ-loop
+mul-q c = search needs
 
-shared-slice-read-at : tie.Need-shared-slice-read-at Inv-loop μ-loop
-shared-slice-read-at c = search needs
+shared-slice-read-q : tie.Need-shared-slice-read-q Inv-loop μ-loop
+shared-slice-read-q c = search needs
 
-cast-at : tie.Need-cast-at Inv-loop μ-loop
-cast-at c = omega (arith, c .shared-slice-known .given (c .before .before .loop .i))
+cast-q : tie.Need-cast-q Inv-loop μ-loop
+cast-q c = omega (arith, c .shared-slice-known .given (c .before .before .loop .i))
 
-mul-degrees : tie.Need-mul-degrees Inv-loop μ-loop
-mul-degrees c = search needs
+add-at : tie.Need-add-at Inv-loop μ-loop
+add-at c = search needs
 
-slice-read-degrees : tie.Need-slice-read-degrees Inv-loop μ-loop
-slice-read-degrees c = search needs
+mul-work : tie.Need-mul-work Inv-loop μ-loop
+mul-work c = search needs
 
-add-degrees : tie.Need-add-degrees Inv-loop μ-loop
-add-degrees c =
+slice-read-work : tie.Need-slice-read-work Inv-loop μ-loop
+slice-read-work c = search needs
+
+add-work : tie.Need-add-work Inv-loop μ-loop
+add-work c =
     let at = c .before .before .before .before in
-    let q = getD (now (at .before .args .row)) (at .loop .i) 0 in
+    let q = getD (at .before .args .row .now) (at .loop .i) 0 in
     omega (arith, at .before .pre .1 q (search needs), adding-room _ _ _ _ _ (at .loop .inv .1) q refl (search needs) (search needs))
 
-slice-write-degrees : tie.Need-slice-write-degrees Inv-loop μ-loop
-slice-write-degrees c = search needs
+slice-write-work : tie.Need-slice-write-work Inv-loop μ-loop
+slice-write-work c = search needs
 
 add-i : tie.Need-add-i Inv-loop μ-loop
 add-i c = search needs
@@ -70,13 +72,14 @@ add-row-spec =
     Inv-loop
     μ-loop
     loop-holds
-    mul-at
-    shared-slice-read-at
-    cast-at
-    mul-degrees
-    slice-read-degrees
-    add-degrees
-    slice-write-degrees
+    mul-q
+    shared-slice-read-q
+    cast-q
+    add-at
+    mul-work
+    slice-read-work
+    add-work
+    slice-write-work
     add-i
     loop-less
     loop-again

@@ -1,52 +1,56 @@
 -- `turns::guesses::count_rows` meets its contract: what is counted, and the rows that are left, is what it comes to. Assumes nothing.
-use mathlib.Core.Path.{_≡_, refl, _∙_}
-use Prim.Native.Nat.{_-_, _≤_}
-use native.Mathlib.Omega.{arith}
 use borrow.Author.Needs.{needs}
-use lib.ListN.{length}
-use Rattle.turns.proofs.Degrees.{Counting, counting-start, counting-room, counting-turn, counting-end}
+use mathlib.Core.Path.{_≡_, refl, _∙_}
+use mathlib.Core.Logic.{inl}
+use Prim.Native.Nat.{ℕ, _+_, _-_, _≤_, _<_}
+use native.Mathlib.Omega.{arith}
+use lib.ListN.{length, getD}
+use Rattle.turns.proofs.Degrees.{Counting, counting-start, counting-room, counting-turn, counting-end, counting-at}
 use Rattle.turns.proofs.guesses.count_rows.Statement.{statement}
 use Rattle.turns.proofs.guesses.count_rows.Tie as tie
 
 abbrev Inv-loop : tie.InvT-loop
-Inv-loop n flat ends lit first count degrees₀ stop r₀ degrees r = (first ≤ r) × (length degrees ≡ length degrees₀) × Counting n flat ends lit first count degrees r
+Inv-loop n flat ends lit work₀ first count i₀ work i = (i ≤ count) × (length work ≡ length work₀) × ((k : ℕ) → k < 9216 → getD work k 0 ≡ getD work₀ k 0) × Counting n flat ends lit first count work (first + i)
 
 abbrev μ-loop : tie.MeasureT-loop
-μ-loop n flat ends lit first count degrees₀ stop r₀ degrees r = stop - r
+μ-loop n flat ends lit work₀ first count i₀ work i = count - i
+
+add-clear-words : tie.Need-add-clear-words Inv-loop μ-loop
+add-clear-words c = search needs
 
 clear-words-requires : tie.Need-clear-words-requires Inv-loop μ-loop
 clear-words-requires c κs = search needs
 
-add-stop : tie.Need-add-stop Inv-loop μ-loop
-add-stop c = search needs
-
 loop-holds : tie.Need-loop-holds Inv-loop μ-loop
-loop-holds c = (search needs, refl, counting-start _ _ _ _ _ _ _ _ (c .before .before .clear-words .ensures))
+loop-holds c = (search needs, refl, λ k h. refl, counting-at _ _ _ _ _ _ _ _ _ (omega arith) (counting-start _ _ _ _ _ _ _ _ (c .before .before .clear-words .ensures)))
+
+add-t17 : tie.Need-add-t17 Inv-loop μ-loop
+add-t17 c = search needs
 
 read-row-requires : tie.Need-read-row-requires Inv-loop μ-loop
 read-row-requires c κs = search needs
 
 add-row-requires : tie.Need-add-row-requires Inv-loop μ-loop
 add-row-requires c κs =
-    let at = c .before .before .before in
-    let ends = at .before .before .before .before .before .before in (
-      search needs,
-      counting-room _ _ _ _ _ _ _ _ (at .loop .inv .2) _ (c .before .read-row .ensures) (search needs) (λ i. omega (arith, ends .before .shared-slice-known2 .given i)) (search needs),
+    let start = c .before .before .before .before .before .before .before .before .before .before .before .before .before in (
+      (start .pre .0, omega (arith, start .pre .1, c .before .before .before .loop .inv .1, c .before .before .before .before .before .before .clear-words .ensures .long)),
+      counting-room _ _ _ _ _ _ _ _ (c .before .before .before .loop .inv .3) _ (c .before .read-row .ensures) (omega (arith, c .before .before .loop-test .taken)) (λ i. omega (arith, c .before .before .before .before .before .before .before .before .before .before .before .shared-slice-known2 .given i)) (start .pre .3),
     )
 
-add-r : tie.Need-add-r Inv-loop μ-loop
-add-r c = search needs
+add-i : tie.Need-add-i Inv-loop μ-loop
+add-i c = search needs
 
 loop-less : tie.Need-loop-less Inv-loop μ-loop
 loop-less c = search needs
 
 loop-again : tie.Need-loop-again Inv-loop μ-loop
 loop-again c =
-    let at = c .before .before .before .before .before .before in
+    let l = c .before .before .before .before .before .before .loop .inv in
     let added = c .before .before .add-row .ensures in (
       search needs,
-      added .long ∙ at .loop .inv .1,
-      counting-turn _ _ _ _ _ _ _ _ (at .loop .inv .2) _ (c .before .before .before .before .read-row .ensures) (search needs) _ added,
+      added .long ∙ l .1,
+      (λ k h. added .below k h ∙ l .2 k h),
+      counting-at _ _ _ _ _ _ _ _ _ (omega arith) (counting-turn _ _ _ _ _ _ _ _ (l .3) _ (c .before .before .before .before .read-row .ensures) (omega (arith, c .before .before .before .before .before .loop-test .taken)) _ added),
     )
 
 same-length : tie.Need-same-length Inv-loop μ-loop
@@ -54,8 +58,8 @@ same-length c = c .before .loop .inv .1 ∙ c .before .before .before .before .c
 
 returns : tie.Need-returns Inv-loop μ-loop
 returns c =
-    let at = c .before in
-    counting-end _ _ _ _ _ _ _ _ (at .loop .inv .2) _ (search needs) (at .loop .inv .1 ∙ at .before .before .before .clear-words .ensures .long)
+    let l = c .before .loop .inv in
+    counting-end _ _ _ _ _ _ _ _ (l .3) _ (omega (arith, c .loop-test .left)) (l .1 ∙ c .before .before .before .before .clear-words .ensures .long) (λ k h. l .2 k h ∙ c .before .before .before .before .clear-words .ensures .outside k (inl h))
 
 pub count-rows-spec : {M : Type 1} → statement M
 count-rows-spec =
@@ -63,12 +67,13 @@ count-rows-spec =
     (tie.spec
     Inv-loop
     μ-loop
+    add-clear-words
     clear-words-requires
-    add-stop
     loop-holds
+    add-t17
     read-row-requires
     add-row-requires
-    add-r
+    add-i
     loop-less
     loop-again
     same-length

@@ -1,25 +1,23 @@
 -- `turns::guesses::most_open` meets its contract: the qubit named so far is the rule's of the qubits below q. Assumes nothing.
+use borrow.Author.Needs.{needs}
 use mathlib.Core.Path.{_≡_, refl, sym, ap, _∙_, subst}
 use mathlib.Core.Logic.{⊎-elim}
 use Prim.Native.Nat.{ℕ, _-_, _≤_}
 use native.Mathlib.Omega.{arith}
-use denote.Ref.{now}
-use borrow.Author.Needs.{needs}
-use lib.ListN.{length, getD}
-use Rattle.turns.specs.declared.Choice.{Choice}
 use Rattle.machine.specs.Machine.{isOpen, most}
 use Rattle.machine.specs.Lists.{view}
+use Rattle.turns.specs.declared.Choice.{Choice}
 use Rattle.turns.specs.Lists.{choiceOf}
-use Rattle.turns.specs.Scans.{betterOf, NamedBelow}
+use Rattle.turns.specs.Scans.{degreeOf, betterOf, NamedBelow}
 use Rattle.turns.proofs.Choices.{named-below, below-more, choice-yes, choice-no}
 use Rattle.turns.proofs.guesses.most_open.Statement.{statement}
 use Rattle.turns.proofs.guesses.most_open.Tie as tie
 
 abbrev Inv-loop : tie.InvT-loop
-Inv-loop n marks degrees best₀ q₀ best q = (q ≤ n) × (best ≡ choiceOf (most (λ p. getD degrees p 0) q (isOpen (view n marks))))
+Inv-loop n marks work best₀ q₀ best q = (q ≤ n) × (best ≡ choiceOf (most (degreeOf work) q (isOpen (view n marks))))
 
 abbrev μ-loop : tie.MeasureT-loop
-μ-loop n marks degrees best₀ q₀ best q = n - q
+μ-loop n marks work best₀ q₀ best q = n - q
 
 loop-holds : tie.Need-loop-holds Inv-loop μ-loop
 loop-holds c = (search needs, refl)
@@ -34,11 +32,11 @@ better-requires : tie.Need-better-requires Inv-loop μ-loop
 better-requires c κs =
     let at = c .before .before .before in
     let args = at .before .before .before .args in
-    let deg : ℕ → ℕ = λ p. getD (now (args .degrees)) p 0 in
-    let o = isOpen (view (args .n) (now (args .marks))) in (
-      subst (λ (x : Choice). NamedBelow x (length (now (args .degrees)))) (sym (at .loop .inv .1))
-          (below-more (choiceOf (most deg (at .loop .q) o)) (at .loop .q) (length (now (args .degrees))) (omega arith) (named-below deg (at .loop .q) o)),
-      omega arith,
+    let o = isOpen (view (args .n) (args .marks .now)) in (
+      at .before .before .before .pre .2,
+      subst (λ (x : Choice). NamedBelow x 1024) (sym (at .loop .inv .1))
+          (below-more (choiceOf (most (degreeOf (args .work .now)) (at .loop .q) o)) (at .loop .q) 1024 (omega (arith, at .loop .inv .0, at .before .before .before .pre .0)) (named-below (degreeOf (args .work .now)) (at .loop .q) o)),
+      omega (arith, c .before .before .loop-test .taken, at .before .before .before .pre .0),
     )
 
 add-q : tie.Need-add-q Inv-loop μ-loop
@@ -53,16 +51,16 @@ loop-again c =
     let args = at .before .before .before .args in (
       search needs,
       ⊎-elim
-          (λ x. x .2 ∙ x .1 .ensures ∙ ap (λ (d : Choice). betterOf (now (args .degrees)) d (record { 0 = at .loop .q })) (at .loop .inv .1)
-          ∙ sym (choice-yes (now (args .degrees)) (at .loop .q) (args .n) (now (args .marks)) (search needs) (x .0 .taken)))
-          (λ x. x .1 ∙ at .loop .inv .1 ∙ sym (choice-no (now (args .degrees)) (at .loop .q) (args .n) (now (args .marks)) (search needs) (x .0 .left))) (c .if1 .came),
+          (λ x. x .2 ∙ x .1 .ensures ∙ ap (λ (d : Choice). betterOf (args .work .now) d (record { 0 = at .loop .q })) (at .loop .inv .1)
+          ∙ sym (choice-yes (args .work .now) (at .loop .q) (args .n) (args .marks .now) (search needs) (x .0 .taken)))
+          (λ x. x .1 ∙ at .loop .inv .1 ∙ sym (choice-no (args .work .now) (at .loop .q) (args .n) (args .marks .now) (search needs) (x .0 .left))) (c .if1 .came),
     )
 
 returns : tie.Need-returns Inv-loop μ-loop
 returns c =
     let args = c .before .before .before .before .args in
     let done : c .before .loop .q ≡ args .n = omega arith in
-    c .before .loop .inv .1 ∙ ap (λ (k : ℕ). choiceOf (most (λ p. getD (now (args .degrees)) p 0) k (isOpen (view (args .n) (now (args .marks)))))) done
+    c .before .loop .inv .1 ∙ ap (λ (k : ℕ). choiceOf (most (degreeOf (args .work .now)) k (isOpen (view (args .n) (args .marks .now))))) done
 
 pub most-open-spec : {M : Type 1} → statement M
 most-open-spec =

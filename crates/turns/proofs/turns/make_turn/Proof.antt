@@ -1,26 +1,24 @@
 -- `turns::turns::make_turn` meets its contract. Assumes nothing.
-use Rattle.turns.proofs.Scanning.{open-below}
+use mathlib.Core.Path.{refl, sym, _∙_}
 use native.Mathlib.Omega.{arith}
-use denote.Ref.{now}
-use Rattle.turns.proofs.Moves.{found-open, moved-peel, moved-guess, choice-open, moved-spent, choice-some}
+use Rattle.kept.proofs.KeptRows.{open-below}
+use Rattle.turns.specs.Turns.{Working}
+use Rattle.turns.proofs.Moves.{choice-open, moved-shut, moved-peel, moved-spent, moved-unnamed, moved-guess}
 use borrow.Author.Needs.{needs}
 use Rattle.turns.proofs.turns.make_turn.Statement.{statement}
 use Rattle.turns.proofs.turns.make_turn.Tie as tie
 
-find-dangling-requires : tie.Need-find-dangling-requires
-find-dangling-requires c κs = search needs
+lowest-requires : tie.Need-lowest-requires
+lowest-requires c κs = search needs
 
-enum-known-found : tie.Need-enum-known-found
-enum-known-found c = search needs
+add-r : tie.Need-add-r
+add-r c = omega (arith, c .before .before .before .before .before .before .before .before .before .before .before .before .pre .0 .6, c .before .before .if1 .taken)
 
-peel-requires : tie.Need-peel-requires
-peel-requires c κs =
-    let a = c .before .before .before .before .before .before .before .before .before .before .before .before .before in
-    let f = c .before .before .before .before .before .find-dangling .ensures in
-    let e = c .before .before .before .found .given .1 in (
-      (omega arith, omega arith, omega arith, omega arith),
-      (f .below _ _ e, found-open (a .args .n) (record { flat = now (a .args .flat); ends = now (a .args .ends); lit = now (a .args .lit); first = a .args .first; count = a .args .count }) (now (a .args .marks)) _ _ _ f e, f .among _ _ e .1, a .pre .1 .2),
-    )
+row-at-requires : tie.Need-row-at-requires
+row-at-requires c κs = search needs
+
+first-open-requires : tie.Need-first-open-requires
+first-open-requires c κs = search needs
 
 same-length : tie.Need-same-length
 same-length c = search needs
@@ -29,72 +27,110 @@ same-length-2 : tie.Need-same-length-2
 same-length-2 c = search needs
 
 returns : tie.Need-returns
-returns c = moved-peel _ _ _ _ _ _ _ _ _ _ _ (c .before .before .before .before .before .before .before .before .before .before .find-dangling .ensures) (c .before .before .before .before .before .before .before .before .found .given .1) (c .before .before .before .before .peel .ensures)
+returns c =
+    let old : Working = (record { marks = c .before .before .before .before .before .before .before .before .before .before .before .before .before .before .before .before .args .marks .now; forms = c .before .before .before .before .before .before .before .before .before .before .before .before .before .before .before .before .args .forms .now; work = c .before .before .before .before .before .before .before .before .before .before .before .before .before .before .before .before .args .work .now }) in
+    moved-shut _ _ _ _ old old _ (c .before .before .before .before .before .before .before .before .lowest .ensures) (omega (arith, c .before .before .before .before .before .before .before .before .before .before .before .before .before .before .before .before .pre .0 .3)) (c .before .before .before .before .before .before .if1 .taken) _ (c .before .before .before .row-at .ensures) _ (c .before .first-open .ensures) (c .if2 .taken)
 
-enum-told : tie.Need-enum-told
-enum-told c = search needs
+mul-p : tie.Need-mul-p
+mul-p c = search needs
+
+shared-slice-read-p : tie.Need-shared-slice-read-p
+shared-slice-read-p c = search needs
+
+peel-requires : tie.Need-peel-requires
+peel-requires c κs =
+    let is-open = c .before .before .before .before .before .first-open .ensures .found (omega (arith, c .before .before .before .before .if2 .left)) in
+    (c .before .before .before .before .before .before .before .before .before .before .before .before .before .before .before .before .before .before .before .before .pre .0, (open-below _ (c .before .before .before .before .before .before .before .before .before .before .before .before .before .before .before .before .before .before .before .before .args .marks .now) _ is-open, is-open, omega (arith, c .before .before .before .before .before .before .before .before .before .before .before .before .before .before .before .before .before .before .before .before .pre .0 .5, c .before .before .before .before .before .before .before .before .before .before .if1 .taken)))
 
 same-length-3 : tie.Need-same-length-3
-same-length-3 c = search needs
+same-length-3 c = c .before .before .before .before .before .before .peel .ensures .stays .work-long
+
+same-length-4 : tie.Need-same-length-4
+same-length-4 c = c .before .before .before .before .before .before .peel .ensures .stays .marks-long
+
+same-length-5 : tie.Need-same-length-5
+same-length-5 c = c .before .before .before .before .before .before .peel .ensures .stays .forms-long
 
 returns-2 : tie.Need-returns-2
 returns-2 c =
-    let a = c .before .before .before .before .before .before .before .before .before .before .before in
-    moved-spent (a .args .n) (record { flat = now (a .args .flat); ends = now (a .args .ends); lit = now (a .args .lit); first = a .args .first; count = a .args .count })
-    (now (a .args .degrees)) (a .args .budget) (a .args .live) (record { marks = now (a .args .marks); forms = now (a .args .forms) }) _ (c .before .before .before .find-dangling .ensures) (c .before .enum-told .given .1) (c .if1 .taken)
-
-most-open-requires : tie.Need-most-open-requires
-most-open-requires c κs = search needs
-
-enum-known-p : tie.Need-enum-known-p
-enum-known-p c = search needs
-
-enum-told-2 : tie.Need-enum-told-2
-enum-told-2 c = search needs
-
-same-length-4 : tie.Need-same-length-4
-same-length-4 c = search needs
-
-returns-3 : tie.Need-returns-3
-returns-3 c =
-    let a = c .before .before .before .before .before .before .before .before .before .before .before .before .before .before .before in
-    choice-some (a .args .n) (now (a .args .degrees)) (now (a .args .marks)) _ (c .before .before .most-open .ensures) (c .enum-told2 .given .1) (c .before .before .before .before .before .before .before .before .before .before .before .before .before .before .before .pre .1 .3)
-
-guess-requires : tie.Need-guess-requires
-guess-requires c κs =
-    let a = c .before .before .before .before .before .before .before .before .before .before .before .before .before .before .before .before .before .before in
-    let o = choice-open (a .args .n) (now (a .args .degrees)) (now (a .args .marks)) _ _ (c .before .before .before .before .before .most-open .ensures) (c .before .before .before .p .given .1) in
-    ((omega arith, omega arith, omega arith, omega arith), (open-below (a .args .n) (now (a .args .marks)) _ o, o, omega arith, a .pre .1 .2))
-
-same-length-5 : tie.Need-same-length-5
-same-length-5 c = search needs
+    let old : Working = (record { marks = c .before .before .before .before .before .before .before .before .before .before .before .before .before .before .before .before .before .before .before .before .before .before .before .before .before .before .before .args .marks .now; forms = c .before .before .before .before .before .before .before .before .before .before .before .before .before .before .before .before .before .before .before .before .before .before .before .before .before .before .before .args .forms .now; work = c .before .before .before .before .before .before .before .before .before .before .before .before .before .before .before .before .before .before .before .before .before .before .before .before .before .before .before .args .work .now }) in
+    moved-peel _ _ _ _ old _ _ (c .before .before .before .before .before .before .before .before .before .before .before .before .before .before .before .before .before .before .before .lowest .ensures) (omega (arith, c .before .before .before .before .before .before .before .before .before .before .before .before .before .before .before .before .before .before .before .before .before .before .before .before .before .before .before .pre .0 .3)) (c .before .before .before .before .before .before .before .before .before .before .before .before .before .before .before .before .before .if1 .taken) _ (c .before .before .before .before .before .before .before .before .before .before .before .before .before .before .row-at .ensures) _ (c .before .before .before .before .before .before .before .before .before .before .before .before .first-open .ensures) _ refl _ (c .before .before .before .before .before .before .peel .ensures)
 
 same-length-6 : tie.Need-same-length-6
 same-length-6 c = search needs
 
+returns-3 : tie.Need-returns-3
+returns-3 c =
+    let old : Working = (record { marks = c .before .before .before .before .before .before .before .before .before .before .before .args .marks .now; forms = c .before .before .before .before .before .before .before .before .before .before .before .args .forms .now; work = c .before .before .before .before .before .before .before .before .before .before .before .args .work .now }) in
+    moved-spent _ _ _ _ old old _ (c .before .before .before .lowest .ensures) (omega (arith, c .before .before .before .before .before .before .before .before .before .before .before .pre .0 .3)) (omega (arith, c .before .if1 .left)) (c .if3 .taken)
+
+most-open-requires : tie.Need-most-open-requires
+most-open-requires c κs = (c .before .before .before .before .before .before .before .before .before .before .before .before .before .pre .0 .0, c .before .before .before .before .before .before .before .before .before .before .before .before .before .pre .0 .1, c .before .before .before .before .before .before .before .before .before .before .before .before .before .pre .0 .3)
+
+enum-known-p : tie.Need-enum-known-p
+enum-known-p c = search needs
+
+enum-told : tie.Need-enum-told
+enum-told c = search needs
+
+same-length-7 : tie.Need-same-length-7
+same-length-7 c = search needs
+
+same-length-8 : tie.Need-same-length-8
+same-length-8 c = search needs
+
 returns-4 : tie.Need-returns-4
 returns-4 c =
-    moved-guess _ _ _ _ _ _ _ _ _ _ _ (c .before .before .before .before .before .before .before .before .before .before .before .before .before .before .before .find-dangling .ensures) (c .before .before .before .before .before .before .before .before .before .before .before .before .before .enum-told .given .1) (c .before .before .before .before .before .before .before .before .before .before .before .before .if1 .left) (c .before .before .before .before .before .before .before .before .before .before .most-open .ensures) (c .before .before .before .before .before .before .before .before .p .given .1) (c .before .before .before .before .guess .ensures)
+    let old : Working = (record { marks = c .before .before .before .before .before .before .before .before .before .before .before .before .before .before .before .before .args .marks .now; forms = c .before .before .before .before .before .before .before .before .before .before .before .before .before .before .before .before .args .forms .now; work = c .before .before .before .before .before .before .before .before .before .before .before .before .before .before .before .before .args .work .now }) in
+    moved-unnamed _ _ _ _ old old _ (c .before .before .before .before .before .before .before .before .lowest .ensures) (omega (arith, c .before .before .before .before .before .before .before .before .before .before .before .before .before .before .before .before .pre .0 .3)) (omega (arith, c .before .before .before .before .before .before .if1 .left)) _ (c .before .before .most-open .ensures) (c .enum-told .given .1)
+
+guess-requires : tie.Need-guess-requires
+guess-requires c κs =
+    let is-open = choice-open _ (c .before .before .before .before .before .before .before .before .before .before .before .before .before .before .before .before .before .before .before .before .args .work .now) (c .before .before .before .before .before .before .before .before .before .before .before .before .before .before .before .before .before .before .before .before .args .marks .now) _ _ (c .before .before .before .before .before .before .most-open .ensures) (c .before .before .before .before .p .given .1) in
+    (c .before .before .before .before .before .before .before .before .before .before .before .before .before .before .before .before .before .before .before .before .pre .0, (open-below _ (c .before .before .before .before .before .before .before .before .before .before .before .before .before .before .before .before .before .before .before .before .args .marks .now) _ is-open, is-open, omega (arith, c .before .before .before .before .before .before .before .before .before .if3 .left, c .before .before .before .before .before .before .before .before .before .before .before .before .before .before .before .before .before .before .before .before .pre .1)))
+
+same-length-9 : tie.Need-same-length-9
+same-length-9 c = c .before .before .before .before .before .before .guess .ensures .stays .work-long
+
+same-length-10 : tie.Need-same-length-10
+same-length-10 c = c .before .before .before .before .before .before .guess .ensures .stays .marks-long
+
+same-length-11 : tie.Need-same-length-11
+same-length-11 c = c .before .before .before .before .before .before .guess .ensures .stays .forms-long
+
+returns-5 : tie.Need-returns-5
+returns-5 c =
+    let old : Working = (record { marks = c .before .before .before .before .before .before .before .before .before .before .before .before .before .before .before .before .before .before .before .before .before .before .before .before .before .before .before .args .marks .now; forms = c .before .before .before .before .before .before .before .before .before .before .before .before .before .before .before .before .before .before .before .before .before .before .before .before .before .before .before .args .forms .now; work = c .before .before .before .before .before .before .before .before .before .before .before .before .before .before .before .before .before .before .before .before .before .before .before .before .before .before .before .args .work .now }) in
+    moved-guess _ _ _ _ old _ _ (c .before .before .before .before .before .before .before .before .before .before .before .before .before .before .before .before .before .before .before .lowest .ensures) (omega (arith, c .before .before .before .before .before .before .before .before .before .before .before .before .before .before .before .before .before .before .before .before .before .before .before .before .before .before .before .pre .0 .3)) (omega (arith, c .before .before .before .before .before .before .before .before .before .before .before .before .before .before .before .before .before .if1 .left)) _ (c .before .before .before .before .before .before .before .before .before .before .before .before .before .most-open .ensures) _ (c .before .before .before .before .before .before .before .before .before .before .before .p .given .1) (omega (arith, c .before .before .before .before .before .before .before .before .before .before .before .before .before .before .before .before .if3 .left)) _ (c .before .before .before .before .before .before .guess .ensures)
 
 pub make-turn-spec : {M : Type 1} → statement M
 make-turn-spec =
     tie.close
     (tie.spec
-    find-dangling-requires
-    enum-known-found
-    peel-requires
+    lowest-requires
+    add-r
+    row-at-requires
+    first-open-requires
     same-length
     same-length-2
     returns
-    enum-told
+    mul-p
+    shared-slice-read-p
+    peel-requires
     same-length-3
+    same-length-4
+    same-length-5
     returns-2
+    same-length-6
+    returns-3
     most-open-requires
     enum-known-p
-    enum-told-2
-    same-length-4
-    returns-3
+    enum-told
+    same-length-7
+    same-length-8
+    returns-4
     guess-requires
-    same-length-5
-    same-length-6
-    returns-4)
+    same-length-9
+    same-length-10
+    same-length-11
+    returns-5)

@@ -1,7 +1,6 @@
 -- `turns::turns::peel` meets its contract. Assumes nothing.
 use mathlib.Core.Path.{refl}
-use native.Mathlib.Omega.{arith}
-use Rattle.turns.proofs.Turning.{side-topped, peel-turned}
+use Rattle.turns.proofs.Turning.{peel-turned}
 use borrow.Author.Needs.{needs}
 use Rattle.turns.proofs.turns.peel.Statement.{statement}
 use Rattle.turns.proofs.turns.peel.Tie as tie
@@ -19,22 +18,21 @@ side-of-requires : tie.Need-side-of-requires
 side-of-requires c κs = search needs
 
 settle-requires : tie.Need-settle-requires
-settle-requires c κs =
-    let a = c .before .before .before .before .before .before .before .before .before .before .before .before in (
-      (omega arith, omega arith, omega arith, omega arith),
-      ((omega arith, a .pre .1 .1, refl), (a .pre .1 .3, side-topped _ _ _ _ _ (a .pre .1 .3) (c .before .before .side-of .ensures))),
-    )
+settle-requires c κs = (c .before .before .before .before .before .before .before .before .before .before .before .before .before .before .pre .0, (c .before .before .before .before .before .before .before .before .before .before .before .before .before .before .pre .1 .0, c .before .before .before .before .before .before .before .before .before .before .before .before .before .before .pre .1 .1, refl))
 
 same-length : tie.Need-same-length
-same-length c = search needs
+same-length c = c .before .before .before .before .before .before .settle .ensures .stays .work-long
 
 same-length-2 : tie.Need-same-length-2
-same-length-2 c = search needs
+same-length-2 c = c .before .before .before .before .before .before .settle .ensures .stays .marks-long
+
+same-length-3 : tie.Need-same-length-3
+same-length-3 c = c .before .before .before .before .before .before .settle .ensures .stays .forms-long
 
 returns : tie.Need-returns
 returns c =
-    let a = c .before .before .before .before .before .before .before .before .before .before .before .before .before .before .before .before .before in
-    peel-turned _ _ _ _ (a .args .live) _ _ _ _ _ (c .before .before .before .before .before .before .before .before .before .before .before .row-at .ensures) (c .before .before .before .before .before .before .before .side-of .ensures) (c .before .before .before .before .settle .ensures (a .args .live))
+    let start = c .before .before .before .before .before .before .before .before .before .before .before .before .before .before .before .before .before .before .before .before .before in
+    peel-turned _ _ _ _ _ _ _ (record { marks = start .args .marks .now; forms = start .args .forms .now; work = start .args .work .now }) _ _ (c .before .before .before .before .before .before .before .before .before .before .before .before .before .before .row-at .ensures) (c .before .before .before .before .before .before .before .before .before .before .side-of .ensures) (c .before .before .before .before .before .before .settle .ensures)
 
 pub peel-spec : {M : Type 1} → statement M
 peel-spec =
@@ -47,4 +45,5 @@ peel-spec =
     settle-requires
     same-length
     same-length-2
+    same-length-3
     returns)

@@ -1,10 +1,9 @@
 -- `turns::turns::settle` meets its contract. Assumes nothing.
 use mathlib.Core.Path.{_∙_}
 use native.Mathlib.Omega.{arith}
-use denote.Ref.{now}
 use lib.ListN.{length-set}
+use Rattle.turns.proofs.Turning.{settled}
 use borrow.Author.Needs.{needs}
-use Rattle.turns.proofs.Turning.{set-requires, settle-turned}
 use Rattle.turns.proofs.turns.settle.Statement.{statement}
 use Rattle.turns.proofs.turns.settle.Tie as tie
 
@@ -20,24 +19,23 @@ mul-forms c = search needs
 slice-write-forms : tie.Need-slice-write-forms
 slice-write-forms c = search needs
 
-take-up-rows-requires : tie.Need-take-up-rows-requires
-take-up-rows-requires c κs =
-    let a = c .before .before .before .before .before .before .before .before in
-    set-requires (a .args .n) (now (a .args .marks)) (now (a .args .forms)) (now (a .args .lit)) (a .args .p .0) (a .args .mark) (a .args .form) (a .args .live) (a .args .first) (a .args .count) (omega arith) (omega arith) (omega arith) (omega arith) (omega arith) (a .pre .1 .1 .0) (a .pre .1 .1 .1)
+close-rows-requires : tie.Need-close-rows-requires
+close-rows-requires c κs = (rw length-set (c .before .before .before .before .before .before .before .before .before .pre .0 .2), omega (arith, c .before .before .before .before .before .before .before .before .before .pre .1 .0, c .before .before .before .before .before .before .before .before .before .pre .0 .0), c .before .before .before .before .before .before .before .before .before .pre .0 .4, c .before .before .before .before .before .before .before .before .before .pre .0 .3, c .before .before .before .before .before .before .before .before .before .pre .0 .5, c .before .before .before .before .before .before .before .before .before .pre .0 .6)
 
 same-length : tie.Need-same-length
 same-length c = search needs
 
 same-length-2 : tie.Need-same-length-2
-same-length-2 c =
-    let a = c .before .before .before .before .before .before .before .before .before .before .before in
-    c .before .before .take-up-rows .ensures .long ∙ length-set (now (a .args .forms)) (a .args .p .0) (a .args .form)
+same-length-2 c = search needs
+
+same-length-3 : tie.Need-same-length-3
+same-length-3 c = c .before .before .before .before .close-rows .ensures .forms-long ∙ length-set (c .before .before .before .before .before .before .before .before .before .before .before .before .before .before .args .forms .now) _ _
 
 returns : tie.Need-returns
 returns c =
-    let a = c .before .before .before .before .before .before .before .before .before .before .before in
-    settle-turned (a .args .n) _ (now (a .args .marks)) (now (a .args .forms)) (a .args .p .0) (a .args .mark) (a .args .form) (a .args .live)
-    (omega arith) (omega arith) (omega arith) (a .pre .1 .0 .1) (a .pre .1 .0 .2) _ _ (c .before .before .take-up-rows .ensures)
+    let start = c .before .before .before .before .before .before .before .before .before .before .before .before .before .before in
+    settled _ _ (record { marks = start .args .marks .now; forms = start .args .forms .now; work = start .args .work .now }) _ _ _ _ _ _ (start .pre .0 .0) (start .pre .0 .4) (start .pre .1 .0)
+    (omega (arith, start .pre .1 .0, start .pre .0 .1)) (omega (arith, start .pre .1 .0, start .pre .0 .2)) (start .pre .1 .1) (start .pre .1 .2) _ (c .before .before .before .before .close-rows .ensures)
 
 pub settle-spec : {M : Type 1} → statement M
 settle-spec =
@@ -47,7 +45,8 @@ settle-spec =
     slice-write-marks
     mul-forms
     slice-write-forms
-    take-up-rows-requires
+    close-rows-requires
     same-length
     same-length-2
+    same-length-3
     returns)

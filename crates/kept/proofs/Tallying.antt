@@ -1,0 +1,230 @@
+-- A row that joins the dangling rows or leaves them, and a row's number lowered. Assumes nothing.
+use mathlib.Core.Path.{_≡_, refl, sym, ap, ap₂, _∙_}
+use mathlib.Core.Bool.{Bool, true, false, not, _&&_, cond}
+use mathlib.Core.Logic.{_⊎_, inl, inr}
+use mathlib.Core.List.{List}
+use Prim.Native.Nat.{ℕ, zero, suc, _+_, _-_, _*_, _/_, _%_, _≤_, _<_}
+use native.Mathlib.Omega.{arith}
+use lib.Dec.{eqb, ltb}
+use lib.ListN.{length, getD, set, length-set}
+use lib.Seq.{getD-set-same, getD-set-other}
+use borrow.Author.Tests.{eq-eqb, ne-eqb, eqb-true, eqb-false, lt-ltb, le-ltb}
+use Rattle.binary.specs.Bits.{_⊕_, tally}
+use Rattle.binary.specs.Bits
+use Rattle.binary.specs.Words
+use Rattle.binary.proofs.Bits.{bit, ⊕-false, tally-same, tally-up}
+use Rattle.binary.proofs.WordBits.{order}
+use Rattle.bitsets.specs.Bitsets.{inSet, NextIn, Flipped}
+use Rattle.machine.specs.Machine.{isOpen}
+use Rattle.machine.specs.Lists.{view}
+use Rattle.kept.specs.Rows.{RowLists}
+use Rattle.kept.specs.Kept.{single?, Tallied, Changed, Lowered, Lowest, Kept, dangles?}
+
+----------------------------------------------------------------------
+-- Marks read
+
+pub open-past : (n : ℕ) (marks : List ℕ) (q : ℕ) → n ≤ q → false ≡ isOpen (view n marks) q
+open-past n marks q h = rw (le-ltb q n h)
+
+pub shut : (n q : ℕ) → false ≡ eqb (cond (ltb q n) 0 0) 4
+shut n q = bit (ltb q n) (λ e. rw e) (λ e. rw e)
+
+pub open-read : (n : ℕ) (marks : List ℕ) (q : ℕ) → q < n → eqb (getD marks q 0) 4 ≡ isOpen (view n marks) q
+open-read n marks q h = rw (lt-ltb q n h)
+
+----------------------------------------------------------------------
+-- The set and the total
+
+module _ (i : ℕ) (joins : Bool) (old mid new : List ℕ) (few : i < 512) (long : 9216 ≤ length old) (f : Flipped 1024 i old mid) where
+  pub changed : length new ≡ length mid → ((k : ℕ) → (8200 ≡ k → ⊥) → getD new k 0 ≡ getD mid k 0)
+      → getD new 8200 0 ≡ cond joins (cond (ltb (getD mid 8200 0) 512) (getD mid 8200 0 + 1) (getD mid 8200 0)) (getD mid 8200 0 - 1)
+      → Changed i joins old new
+  unfolding inSet
+  changed same others told =
+      let total : getD mid 8200 0 ≡ getD old 8200 0 = f .beyond 8200 (omega arith) in
+      record {
+        long = same ∙ f .long;
+        sets = λ t j h l. ap (λ (x : ℕ). Words.bit x (j % 64)) (others (8 * t + j / 64) (λ e. omega arith)) ∙ f .flipped few (omega arith) t j l;
+        total = rw (← total) told;
+        below = λ k h. others k (λ e. omega arith) ∙ f .rest k (omega arith);
+        beyond = λ k h. others k (λ e. omega arith) ∙ f .beyond k (omega arith);
+      }
+
+  abbrev total : ℕ
+  total = getD mid 8200 0
+
+  pub joined : joins ≡ true → total < 512 → new ≡ set mid 8200 (total + 1) → Changed i joins old new
+  joined e h n = changed (rw n (length-set mid 8200 (total + 1))) (λ k d. rw n (getD-set-other mid 8200 k (total + 1) 0 (λ t. d (sym t))))
+      (rw (n, e, lt-ltb total 512 h) (getD-set-same mid 8200 (total + 1) 0 (omega (arith, f .long))))
+
+  pub full : joins ≡ true → 512 ≤ total → new ≡ mid → Changed i joins old new
+  full e h n = changed (rw n) (λ k d. rw n) (rw (n, e, le-ltb total 512 h))
+
+  pub parted : joins ≡ false → new ≡ set mid 8200 (total - 1) → Changed i joins old new
+  parted e n = changed (rw n (length-set mid 8200 (total - 1))) (λ k d. rw n (getD-set-other mid 8200 k (total - 1) 0 (λ t. d (sym t))))
+      (rw (n, e) (getD-set-same mid 8200 (total - 1) 0 (omega (arith, f .long))))
+
+  pub bare : joins ≡ false → total ≡ 0 → new ≡ mid → Changed i joins old new
+  bare e h n = changed (rw n) (λ k d. rw n) (rw (n, e) (omega arith))
+
+----------------------------------------------------------------------
+-- A number lowered
+
+pub tally-few : (n : ℕ) (f : ℕ → Bool) → tally n f ≤ n
+tally-few zero f = omega arith
+tally-few (suc n) f = let rest = tally-few n f in bit (f n) (λ e. rw e (omega arith)) (λ e. rw e (omega arith))
+
+-- Where the row's number is set, and nothing else.
+module _ (i left : ℕ) (old : List ℕ) (few : i < 512) (long : 9216 ≤ length old) (is : left + 1 ≡ getD old (8704 + i) 0) where
+  abbrev mid : List ℕ
+  mid = set old (8704 + i) left
+
+  mid-count : (j : ℕ) → getD mid (8704 + j) 0 ≡ cond (eqb i j) left (getD old (8704 + j) 0)
+  mid-count j =
+      bit (eqb i j)
+      (λ e. let same = eqb-true i j e in rw (e, ← same) (getD-set-same old (8704 + i) left 0 (omega arith)))
+      (λ e. rw e (getD-set-other old (8704 + i) (8704 + j) left 0 (λ t. eqb-false i j e (omega arith))))
+
+  mid-sets : (t j : ℕ) → t ≤ 1024 → j < 512 → inSet mid t j ≡ inSet old t j
+  unfolding inSet
+  mid-sets t j h l = ap (λ (x : ℕ). Words.bit x (j % 64)) (getD-set-other old (8704 + i) (8 * t + j / 64) left 0 (λ e. omega arith))
+
+  -- The numbers of a list that has those of mid.
+  abbrev Counts : List ℕ → Type 0
+  Counts new = (j : ℕ) → getD new (8704 + j) 0 ≡ getD mid (8704 + j) 0
+
+  single-other : (new : List ℕ) → Counts new → (j : ℕ) → eqb i j ≡ false → single? new j ≡ single? old j
+  single-other new c j e = rw (c j, mid-count j, e)
+
+  single-own : (new : List ℕ) → Counts new → single? new i ≡ eqb left 1
+  single-own new c = rw (c i, mid-count i, eq-eqb i i refl)
+
+  was : single? old i ≡ eqb (left + 1) 1
+  was = rw (← is)
+
+  lowered : (new : List ℕ) → length new ≡ length old → ((k : ℕ) → k < 8192 → getD new k 0 ≡ getD old k 0) → ((k : ℕ) → 9216 ≤ k → getD new k 0 ≡ getD old k 0) → Counts new
+      → ((n : ℕ) → n ≤ 512 → i < n → Tallied n old → Tallied n new) → Lowered i old new left
+  lowered new same below past c t =
+      record {
+        long = same;
+        below = below;
+        past = past;
+        counts = λ a b d. (is, λ j h. c j ∙ mid-count j);
+        tallied = λ a b d n h l v. t n h l v;
+      }
+
+  mid-below : (k : ℕ) → k < 8192 → getD mid k 0 ≡ getD old k 0
+  mid-below k h = getD-set-other old (8704 + i) k left 0 (λ e. omega arith)
+
+  mid-past : (k : ℕ) → 9216 ≤ k → getD mid k 0 ≡ getD old k 0
+  mid-past k h = getD-set-other old (8704 + i) k left 0 (λ e. omega arith)
+
+  total-mid : getD mid 8200 0 ≡ getD old 8200 0
+  total-mid = getD-set-other old (8704 + i) 8200 left 0 (λ e. omega arith)
+
+  -- The row neither dangled nor dangles.
+  pub lowered-more : 2 ≤ left → Lowered i old mid left
+  lowered-more h =
+      lowered mid (length-set old (8704 + i) left) mid-below mid-past (λ j. refl)
+      (λ n a b v. record {
+        dangling = λ j l. mid-sets 1024 j (omega arith) (omega arith) ∙ v .dangling j l ∙ sym (same j);
+        total = total-mid ∙ v .total ∙ sym (tally-same n (single? old) (single? mid) (λ j l. same j));
+      })
+    where
+      same : (j : ℕ) → single? mid j ≡ single? old j
+      same j =
+          bit (eqb i j)
+          (λ e. let d = eqb-true i j e in rw (← d) (single-own mid (λ k. refl) ∙ ne-eqb left 1 (λ t. omega arith) ∙ sym (was ∙ ne-eqb (left + 1) 1 (λ t. omega arith))))
+          (λ e. single-other mid (λ k. refl) j e)
+
+  -- The row dangles from now on, or no longer.
+  module _ (joins : Bool) (new : List ℕ) (c : Changed i joins mid new) where
+    new-counts : Counts new
+    new-counts j = c .beyond (8704 + j) (omega arith)
+
+    flipped : single? new i ≡ not (single? old i) → (n : ℕ) → n ≤ 512 → Tallied n old → (j : ℕ) → j < n → inSet new 1024 j ≡ single? new j
+    flipped turned n a v j l =
+        c .sets 1024 j (omega arith) (omega arith) ∙ ap (λ (x : Bool). x ⊕ eqb j i) (mid-sets 1024 j (omega arith) (omega arith) ∙ v .dangling j l)
+        ∙ bit (eqb i j)
+        (λ e. let d = eqb-true i j e in rw (← d, eq-eqb i i refl) (turn (single? old i) ∙ sym turned))
+        (λ e. rw (ne-eqb j i (λ t. eqb-false i j e (sym t)), single-other new new-counts j e) (⊕-false (single? old j)))
+      where
+        turn : (x : Bool) → x ⊕ true ≡ not x
+        turn true = refl
+        turn false = refl
+
+    turned-over : single? new i ≡ not (single? old i) → ((n : ℕ) → n ≤ 512 → i < n → Tallied n old → getD new 8200 0 ≡ tally n (single? new)) → Lowered i old new left
+    turned-over turned t =
+        lowered new (c .long ∙ length-set old (8704 + i) left) (λ k h. c .below k h ∙ mid-below k h) (λ k h. c .beyond k (omega arith) ∙ mid-past k h) new-counts
+        (λ n a b v. record { dangling = flipped turned n a v; total = t n a b v })
+
+  pub lowered-none : left ≡ 0 → (new : List ℕ) → Changed i false mid new → Lowered i old new left
+  lowered-none z new c =
+      let counts = new-counts false new c in
+      let now : single? new i ≡ false = single-own new counts ∙ ne-eqb left 1 (λ t. omega arith) in
+      let then : single? old i ≡ true = was ∙ eq-eqb (left + 1) 1 (omega arith) in
+      turned-over false new c (now ∙ sym (ap not then))
+      (λ n a b v. let up = tally-up n i (single? new) (single? old) b now then (λ j e. sym (single-other new counts j e)) in
+      let told : getD mid 8200 0 ≡ suc (tally n (single? new)) = total-mid ∙ v .total ∙ up in
+      c .total ∙ rw told (omega arith))
+
+  pub lowered-one : left ≡ 1 → (new : List ℕ) → Changed i true mid new → Lowered i old new left
+  lowered-one z new c =
+      let counts = new-counts true new c in
+      let now : single? new i ≡ true = single-own new counts ∙ eq-eqb left 1 z in
+      let then : single? old i ≡ false = was ∙ ne-eqb (left + 1) 1 (λ t. omega arith) in
+      turned-over true new c (now ∙ sym (ap not then))
+      (λ n a b v.
+      let up = tally-up n i (single? old) (single? new) b then now (λ j e. single-other new counts j e) in
+      let most = tally-few n (single? new) in
+      let told : getD mid 8200 0 ≡ tally n (single? old) = total-mid ∙ v .total in
+      c .total ∙ rw (told, lt-ltb (tally n (single? old)) 512 (omega arith)) (omega arith))
+
+module _ (i : ℕ) (old : List ℕ) where
+  -- Where the list is short, there is no such row, or its number is 0.
+  pub lowered-not : (9216 ≤ length old → i < 512 → 1 ≤ getD old (8704 + i) 0 → ⊥) → Lowered i old old 0
+  lowered-not f = record { long = refl; below = λ k h. refl; past = λ k h. refl; counts = λ a b d. absurd (f a b d); tallied = λ a b d. absurd (f a b d) }
+
+----------------------------------------------------------------------
+-- The lowest dangling row
+
+none-tallied : (n : ℕ) (f : ℕ → Bool) → tally n f ≡ 0 → (j : ℕ) → j < n → f j ≡ false
+none-tallied zero f e j h = absurd (omega arith)
+none-tallied (suc n) f e j h = by (order j n) (none-tallied n f (rest (f n) e) j)
+  where
+    rest : (b : Bool) → Bits.count b (tally n f) ≡ 0 → tally n f ≡ 0
+    rest true t = absurd (omega arith)
+    rest false t = t
+
+    last : (b : Bool) → f n ≡ b → Bits.count b (tally n f) ≡ 0 → f n ≡ false
+    last true i t = absurd (omega arith)
+    last false i t = i
+
+    by : (j < n) ⊎ (n ≤ j) → (j < n → f j ≡ false) → f j ≡ false
+    by (inl l) lower = lower l
+    by (inr l) lower = let same : n ≡ j = omega arith in rw (← same) (last (f n) refl e)
+
+module _ (count : ℕ) (work : List ℕ) where
+  pub lowest-short : length work < 9216 → Lowest count work count
+  lowest-short h = record { within = omega arith; lowest = λ l. absurd (omega arith) }
+
+  pub lowest-none : getD work 8200 0 ≡ 0 → Lowest count work count
+  lowest-none z =
+      record {
+        within = omega arith;
+        lowest = λ l o c e k. (
+          (λ h. absurd (omega arith)),
+          (λ j h. none-tallied (c .count) (dangles? o c) (sym (k .total) ∙ z) j (omega arith)),
+        );
+      }
+
+  pub lowest-found : (r : ℕ) → NextIn work 1024 0 count r → Lowest count work r
+  lowest-found r f =
+      let w = f .within (omega arith) in
+      record {
+        within = w .1;
+        lowest = λ l o c e k. (
+          (λ h. sym (k .dangling r (omega arith)) ∙ f .found h),
+          (λ j h. sym (k .dangling j (omega arith)) ∙ f .skipped j (omega arith) h),
+        );
+      }
