@@ -23,7 +23,7 @@ order a b = go (decLt a b)
 ----------------------------------------------------------------------
 -- Bits of the machine's operations
 
-parity : (n : ℕ) → (n % 2 ≡ 0) ⊎ (n % 2 ≡ 1)
+pub parity : (n : ℕ) → (n % 2 ≡ 0) ⊎ (n % 2 ≡ 1)
 parity n = ⊎-elim (λ e. inl e) (λ (p : 0 < n % 2). inr (omega arith)) (eq-zero-or-pos (n % 2))
 
 -- An operation f of words goes bit by bit, as g, if it commutes with a shift and a remainder, and is g on the digits 0 and 1.

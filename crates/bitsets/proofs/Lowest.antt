@@ -1,22 +1,14 @@
 -- The lowest bit of a word: what the count of trailing zeros finds. Assumes nothing.
-use mathlib.Core.Path.{_≡_, refl, sym, ap, _∙_}
+use mathlib.Core.Path.{_≡_, sym, ap, _∙_}
 use mathlib.Core.Bool.{true, false}
 use mathlib.Core.Logic.{_⊎_, inl, inr}
-use Prim.Native.Nat.{ℕ, zero, suc, _+_, _*_, _/_, _%_, _^_, _≤_, _<_}
+use Prim.Native.Nat.{ℕ, zero, suc, _+_, _/_, _%_, _^_, _≤_, _<_}
 use native.Mathlib.Nat.{pow-succ'}
 use native.Mathlib.Omega.{arith}
 use lib.Count.{under, trailingZeros}
 use lib.Dec.{eqb}
-use lib.Pow.{pow-pos}
 use Rattle.binary.specs.Words.{bit}
-use Rattle.binary.proofs.WordBits.{order, bit-shr}
-
-parity : (n : ℕ) → (n % 2 ≡ 0) ⊎ (n % 2 ≡ 1)
-parity n = by (order (n % 2) 1)
-  where
-    by : (n % 2 < 1) ⊎ (1 ≤ n % 2) → (n % 2 ≡ 0) ⊎ (n % 2 ≡ 1)
-    by (inl h) = inl (omega arith)
-    by (inr h) = inr (omega arith)
+use Rattle.binary.proofs.WordBits.{parity, bit-shr}
 
 bit-next : (n j : ℕ) → bit n (suc j) ≡ bit (n / 2) j
 bit-next n j = let e : 1 + j ≡ suc j = omega arith in ap (bit n) (sym e) ∙ sym (bit-shr n 1 j)

@@ -17,7 +17,7 @@ use Rattle.halves.specs.declared.HalfAnswer.the-variants.{Refused, Decod
 use Rattle.kept.specs.Rows.{RowLists}
 use Rattle.kept.specs.Kept.{Kept}
 use Rattle.machine.specs.Machine.{isOpen}
-use Rattle.machine.specs.Report.{Shown, none?, outcome}
+use Rattle.machine.specs.Report.{none?, outcome}
 use Rattle.machine.specs.Lists.{view, HalfLists, Past, Shows, SameLengths}
 use Rattle.halves.specs.Lists.{halfOf}
 

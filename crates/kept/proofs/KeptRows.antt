@@ -1,7 +1,7 @@
 -- Everything kept of the rows, row by row. Assumes nothing.
 use mathlib.Core.Path.{_≡_, refl, sym, ap, ap₂, _∙_, subst}
 use mathlib.Core.Bool.{Bool, true, false, not, _&&_, _||_, cond}
-use mathlib.Core.Logic.{_⊎_, inl, inr, ⊎-elim}
+use mathlib.Core.Logic.{_⊎_, inl, ⊎-elim}
 use mathlib.Core.List.{List, [], _∷_}
 use Prim.Native.Nat.{ℕ, zero, suc, _+_, _-_, _*_, _/_, _%_, _≤_, _<_}
 use native.Mathlib.Numerals.{add-one}
@@ -11,7 +11,7 @@ use lib.Dec.{eqb, ltb, leb}
 use lib.ListN.{length, getD, set, drop, drop-of-length-le, length-set}
 use lib.Seq.{drop-cons, getD-set-same, getD-set-other}
 use borrow.Author.Tests.{eq-eqb, ne-eqb, eqb-true, eqb-false, lt-ltb, le-ltb, ltb-true, leb-true}
-use Rattle.binary.specs.Bits.{_⊕_, tally}
+use Rattle.binary.specs.Bits.{_⊕_}
 use Rattle.binary.specs.Bits
 use Rattle.binary.specs.Words
 use Rattle.binary.specs.Meaning.{Qubits, Row, All, has}
@@ -24,7 +24,7 @@ use Rattle.code.specs.Tests.{Ascending}
 use Rattle.code.proofs.Order.{Distinct, ascending-distinct}
 use Rattle.machine.specs.Machine.{isOpen, part}
 use Rattle.machine.specs.Lists.{view}
-use Rattle.kept.specs.Rows.{RowLists, read?, readRow}
+use Rattle.kept.specs.Rows.{RowLists, read?}
 use Rattle.kept.specs.Kept.{rowIn, openIn, dangles?, Kept, RowsOn, single?, Tallied, Changed, Emptied, RowAdded, KeptTo, fits?, Fills}
 use Rattle.kept.proofs.Tallying.{tally-few}
 

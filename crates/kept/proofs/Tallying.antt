@@ -1,6 +1,6 @@
 -- A row that joins the dangling rows or leaves them, and a row's number lowered. Assumes nothing.
-use mathlib.Core.Path.{_≡_, refl, sym, ap, ap₂, _∙_}
-use mathlib.Core.Bool.{Bool, true, false, not, _&&_, cond}
+use mathlib.Core.Path.{_≡_, refl, sym, ap, _∙_}
+use mathlib.Core.Bool.{Bool, true, false, not, cond}
 use mathlib.Core.Logic.{_⊎_, inl, inr}
 use mathlib.Core.List.{List}
 use Prim.Native.Nat.{ℕ, zero, suc, _+_, _-_, _*_, _/_, _%_, _≤_, _<_}
@@ -17,8 +17,7 @@ use Rattle.binary.proofs.WordBits.{order}
 use Rattle.bitsets.specs.Bitsets.{inSet, NextIn, Flipped}
 use Rattle.machine.specs.Machine.{isOpen}
 use Rattle.machine.specs.Lists.{view}
-use Rattle.kept.specs.Rows.{RowLists}
-use Rattle.kept.specs.Kept.{single?, Tallied, Changed, Lowered, Lowest, Kept, dangles?}
+use Rattle.kept.specs.Kept.{single?, Tallied, Changed, Lowered, Lowest, dangles?}
 
 ----------------------------------------------------------------------
 -- Marks read

@@ -2,7 +2,7 @@
 ghost use mathlib.Core.Path.{_≡_};
 ghost use Prim.Native.Nat.{suc, _+_, _≤_, _<_};
 ghost use lib.ListN.{length};
-ghost use Rattle.kept.specs.Kept.{Emptied, RowAdded, KeptTo, fits?};
+ghost use Rattle.kept.specs.Kept.{Emptied, RowAdded, KeptTo};
 use crate::change;
 use crate::is_open;
 use crate::read_row;

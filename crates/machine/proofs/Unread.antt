@@ -1,12 +1,12 @@
 -- A half without an unread row has document 01's checks, and ends as there. Assumes nothing.
 use mathlib.Core.Path.{_≡_, refl, ap, _∙_}
-use mathlib.Core.Bool.{Bool, true, false, not}
+use mathlib.Core.Bool.{Bool, false, not}
 use mathlib.Core.List.{List, [], _∷_}
 use Prim.Native.Nat.{ℕ, suc}
 use Rattle.binary.specs.Meaning.{Row, Check}
-use Rattle.machine.specs.Machine.{End, Half, keepIf, readings, checks, fixedOf, start, degree, most, run, decoded}
+use Rattle.machine.specs.Machine.{keepIf, readings, checks, fixedOf, start, degree, most, run, decoded}
 use Rattle.machine.specs.Report.{shown}
-use Rattle.machine.specs.Unread.{everyRow, before, AllRead, AllReadLaw}
+use Rattle.machine.specs.Unread.{everyRow, before, AllReadLaw}
 
 all-kept : (i : ℕ) (lit unread : ℕ → Bool) (rows : List Row) → ((k : ℕ) → unread k ≡ false) → readings i lit unread rows ≡ everyRow i lit rows
 all-kept i lit unread [] none = refl

@@ -8,8 +8,8 @@ use mathlib.Core.Bool.{Bool, false}
 use mathlib.Core.List.{List, [], _∷_}
 use Prim.Native.Nat.{ℕ, suc}
 use Rattle.binary.specs.Meaning.{Row, Check}
-use Rattle.machine.specs.Machine.{End, Half, checks, fixedOf, start, degree, most, run, decoded}
-use Rattle.machine.specs.Report.{Shown, shown, outcome}
+use Rattle.machine.specs.Machine.{End, Half, checks, fixedOf, start, degree, most, run}
+use Rattle.machine.specs.Report.{shown, outcome}
 
 -- From row i on.
 abbrev pub everyRow : ℕ → (ℕ → Bool) → List Row → List Check

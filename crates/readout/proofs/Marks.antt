@@ -1,6 +1,6 @@
 -- Sets that a list marks by an element. Assumes nothing.
 --   MarkedBy  the set is what the list marks, or empty where the list is an earlier shot's
-use mathlib.Core.Path.{_≡_, refl, sym, ap, _∙_, fun-ext}
+use mathlib.Core.Path.{_≡_, refl, ap, fun-ext}
 use mathlib.Core.Bool.{Bool, true, false, not, _&&_}
 use mathlib.Core.Logic.{⊎-elim}
 use mathlib.Core.List.{List}
@@ -14,7 +14,6 @@ use borrow.Author.Tests.{lt-ltb, le-ltb, eq-eqb, ne-eqb}
 use Rattle.binary.proofs.WordBits.{order}
 use Rattle.machine.specs.Machine.{put}
 use Rattle.records.specs.Lists.{marks}
-use Rattle.readout.specs.Readout.{marked?}
 
 abbrev pub MarkedBy : Bool → ℕ → ℕ → ℕ → List ℕ → (ℕ → Bool) → Type 0
 MarkedBy true e count first l f = f ≡ (λ i. false)

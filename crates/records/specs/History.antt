@@ -10,7 +10,7 @@ use mathlib.Core.List.{List, [], _∷_, _++_}
 use Prim.Native.Nat.{ℕ, _+_}
 use lib.Dec.{eqb}
 use lib.ListN.{length}
-use Rattle.binary.specs.Meaning.{Qubits, Row}
+use Rattle.binary.specs.Meaning.{Row}
 use Rattle.machine.specs.Machine.{Half, put}
 use Rattle.records.specs.declared.Sizes.{Sizes}
 use Rattle.records.specs.Records.{Pauli, X, Z, Set, lost, lit, unread}

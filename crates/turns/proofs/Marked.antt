@@ -1,17 +1,17 @@
 -- A half from the marks of its start: what is kept of its rows, the closed rows, the turns, the report. Assumes nothing.
 use mathlib.Core.Path.{_≡_, refl, sym, ap, _∙_, fun-ext, subst}
-use mathlib.Core.Bool.{Bool, true, false, not, _&&_}
+use mathlib.Core.Bool.{Bool, true, false, not}
 use mathlib.Core.Option.{Option, none, some}
 use mathlib.Core.List.{List}
-use Prim.Native.Nat.{ℕ, suc, _+_, _≤_, _<_, zero-le}
+use Prim.Native.Nat.{ℕ, suc, _+_, _≤_, zero-le}
 use native.Mathlib.Omega.{arith}
 use lib.Dec.{leb}
-use lib.ListN.{length, getD}
+use lib.ListN.{length}
 use borrow.Author.Tests.{leb-true, le-leb}
 use Rattle.binary.specs.Meaning.{Qubits}
-use Rattle.binary.proofs.Bits.{bit as cases, never, and-out, and-in, not-out}
+use Rattle.binary.proofs.Bits.{bit as cases, never, and-out, not-out}
 use Rattle.kept.specs.Rows.{RowLists, rowChecks}
-use Rattle.kept.specs.Kept.{Kept, RowsOn, Fills}
+use Rattle.kept.specs.Kept.{Kept, Fills}
 use Rattle.kept.specs.Kept
 use Rattle.kept.proofs.KeptRows.{open-below, kept-same, rows-same}
 use Rattle.machine.specs.declared.Word.the-variants.{None}
@@ -26,10 +26,10 @@ use Rattle.forms.specs.declared.Taken.the-variants.{Failed, Live}
 use Rattle.turns.specs.declared.Ended.{Ended}
 use Rattle.forms.specs.Forms.{Topped, TakenAs}
 use Rattle.turns.specs.Lists.{stateOf}
-use Rattle.turns.specs.Scans.{degreeOf, CountedRows}
+use Rattle.turns.specs.Scans.{CountedRows}
 use Rattle.turns.specs.Taking.{TookClosed}
 use Rattle.turns.specs.Turns.{Working, GoodRows, Stays, Ready, StageAs, mostBy, EndedAs, runFrom, RunEnds}
-use Rattle.turns.specs.Runs.{stageIn, endOf, TurnedHalf, reportBy, Ran, RanHalf, fits?, fitting, Runs}
+use Rattle.turns.specs.Runs.{stageIn, endOf, TurnedHalf, reportBy, RanHalf, fits?, fitting, Runs}
 use Rattle.turns.proofs.Choices.{counted-rule}
 use Rattle.turns.proofs.Running.{run-failed, stays-on}
 

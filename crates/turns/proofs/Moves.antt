@@ -25,7 +25,7 @@ use Rattle.kept.specs.Rows.{RowLists, checksFrom, rowChecks}
 use Rattle.kept.specs.Kept.{rowIn, dangles?, Lowest}
 use Rattle.turns.specs.Lists.{choiceOf}
 use Rattle.turns.specs.Scans.{OpenFrom, degreeOf}
-use Rattle.turns.specs.Turns.{Working, GoodRows, Ready, Stays, Turned, peelBy, guessBy, turnBy, mostBy, someOpen, Moved}
+use Rattle.turns.specs.Turns.{Working, Ready, Stays, Turned, peelBy, guessBy, turnBy, mostBy, Moved}
 use Rattle.machine.proofs.Guessing.{most-rule}
 use Rattle.turns.proofs.Scanning.{one-inside, one-open}
 use Rattle.turns.proofs.TakingRows.{from, here, was-read, from-all, from-none}

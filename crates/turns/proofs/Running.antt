@@ -7,7 +7,6 @@ use Prim.Native.Nat.{ℕ, zero, suc, _+_, _-_, _≤_, _<_, zero-le}
 use native.Mathlib.Omega.{arith}
 use native.Mathlib.Numerals.{add-one, lt-of-le-of-ne}
 use lib.Dec.{eqb}
-use lib.ListN.{getD}
 use Rattle.binary.specs.Bits.{below, count, tally}
 use Rattle.binary.specs.Meaning.{Qubits, Check}
 use Rattle.binary.proofs.Bits.{bit as cases, never, eq-eqb, eqb-differ, and-out, not-out}
@@ -23,7 +22,6 @@ use Rattle.machine.specs.Words.{finished}
 use Rattle.machine.specs.Machine.{State, Stage, on, failed, End, isOpen, noneOpen, before, most, turn, run}
 use Rattle.machine.specs.Report.{marked}
 use Rattle.machine.specs.Lists.{view}
-use Rattle.forms.specs.Forms.{Topped}
 use Rattle.turns.specs.Lists.{stateOf}
 use Rattle.kept.specs.Rows.{RowLists, rowChecks}
 use Rattle.kept.proofs.KeptRows.{open-below}

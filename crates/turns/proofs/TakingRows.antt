@@ -1,37 +1,30 @@
--- Closed rows taken up: at the start of a half one by one, and after a turn the rows on the settled qubit. Assumes nothing.
+-- Rows taken up from a row on, and the closed rows of a start. Assumes nothing.
 use mathlib.Core.Path.{_≡_, refl, sym, ap, ap₂, _∙_, fun-ext, subst}
-use mathlib.Core.Bool.{Bool, true, false, _&&_, _||_, cond}
+use mathlib.Core.Bool.{Bool, true, false, _&&_}
 use mathlib.Core.Logic.{_⊎_, inr, ⊎-elim}
 use mathlib.Core.Option.{Option, none, some}
 use mathlib.Core.List.{List, [], _∷_}
-use Prim.Native.Nat.{ℕ, zero, suc, _+_, _-_, _*_, _/_, _%_, _≤_, _<_, zero-le}
-use native.Mathlib.Nat.{add-zero}
-use native.Mathlib.Numerals.{add-one}
+use Prim.Native.Nat.{ℕ, zero, suc, _+_, _-_, _≤_, _<_, zero-le}
 use native.Mathlib.Omega.{arith}
-use lib.Dec.{eqb, ltb}
+use lib.Dec.{eqb}
 use lib.ListN.{length, getD}
-use borrow.Author.Tests.{eq-eqb, ne-eqb, eqb-true, eqb-false, lt-ltb, le-ltb}
+use borrow.Author.Tests.{ne-eqb, lt-ltb, le-ltb}
 use Rattle.binary.specs.Words
-use Rattle.binary.specs.Meaning.{Qubits, Row, Check, All, has}
-use Rattle.binary.proofs.Bits.{bit, never, or-out, &&-false}
+use Rattle.binary.specs.Meaning.{Qubits, Check}
+use Rattle.binary.proofs.Bits.{bit, never}
 use Rattle.binary.proofs.WordBits.{order, bit-zero}
 use Rattle.lists.specs.Cleared.{Cleared}
-use Rattle.bitsets.specs.Bitsets.{inSet, NextIn}
 use Rattle.code.specs.Lists.{rowAt}
-use Rattle.code.specs.Tests.{Ascending}
-use Rattle.code.proofs.Order.{Distinct, ascending-distinct}
 use Rattle.forms.specs.declared.Taken.{Taken}
 use Rattle.forms.specs.declared.Taken.the-variants.{Failed, Live}
-use Rattle.machine.specs.Machine.{Form, Forms, put, keepIf, part, empty?, closed?, bind, takeUp, takeIf, takeUpAll, blank}
+use Rattle.machine.specs.Machine.{Form, Forms, keepIf, part, empty?, closed?, bind, takeIf, takeUpAll, blank}
 use Rattle.machine.specs.Lists.{formsOf}
 use Rattle.forms.specs.Forms.{withLive, Topped, TakenAs, TakesUp}
 use Rattle.forms.specs.Sides.{check}
 use Rattle.kept.specs.Rows.{RowLists, checkAt, read?, checksFrom, rowChecks}
-use Rattle.kept.specs.Kept.{rowIn, openIn, Kept, RowsOn, Tallied, Lowered}
-use Rattle.kept.proofs.KeptRows.{row-of, kept-by, tallied-by}
-use Rattle.turns.specs.Lists.{closedAt?, takenIf}
+use Rattle.kept.specs.Kept.{openIn, Kept}
+use Rattle.turns.specs.Lists.{takenIf}
 use Rattle.turns.specs.Taking.{TookIf, TookClosed}
-use Rattle.turns.specs.Turns.{GoodRows, TakenRows, ClosedRows}
 
 ----------------------------------------------------------------------
 -- The answer and the machine

@@ -1,6 +1,6 @@
 -- A qubit settled in the lists is one settled by the machine. Assumes nothing.
 use mathlib.Core.Path.{_≡_, refl, sym, ap, ap₂, _∙_, fun-ext, subst}
-use mathlib.Core.Bool.{Bool, true, false, not, _&&_, _||_, cond}
+use mathlib.Core.Bool.{Bool, true, false, not, _&&_, cond}
 use mathlib.Core.Option.{Option, none, some}
 use mathlib.Core.List.{List, [], _∷_}
 use Prim.Native.Nat.{ℕ, suc, _+_, _*_, _%_, _^_, _≤_, _<_}
@@ -17,10 +17,10 @@ use Rattle.binary.proofs.Bits.{bit as cases, never, eqb-eq, eq-eqb, eqb-differ,
 use Rattle.binary.proofs.WordBits.{bit-pow, one-shl}
 use Rattle.code.specs.Lists.{rowAt}
 use Rattle.forms.specs.declared.Taken.{Taken}
-use Rattle.forms.specs.declared.Taken.the-variants.{Failed, Live}
+use Rattle.forms.specs.declared.Taken.the-variants.{Live}
 use Rattle.machine.specs.Machine.{Form, Forms, put, isOpen, part, empty?, closed?, closing, side, takeUpAll, stage, settle}
 use Rattle.machine.specs.Lists.{view, formsOf}
-use Rattle.forms.specs.Forms.{withLive, Topped, TakenAs, TookUp}
+use Rattle.forms.specs.Forms.{withLive, Topped, TakenAs}
 use Rattle.turns.specs.Lists.{stateOf, closedAt?}
 use Rattle.forms.specs.Sides.{check, IsSide}
 use Rattle.kept.specs.Rows.{RowLists, rowChecks}

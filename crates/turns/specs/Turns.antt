@@ -16,7 +16,7 @@ use Prim.Native.Nat.{ℕ, suc, _≤_, _<_}
 use lib.Dec.{eqb}
 use lib.ListN.{length, getD}
 use Rattle.binary.specs.Bits.{below}
-use Rattle.binary.specs.Meaning.{Qubits, Check, All}
+use Rattle.binary.specs.Meaning.{Qubits, All}
 use Rattle.binary.specs.Words.{bit}
 use Rattle.code.specs.Lists.{rowsFrom}
 use Rattle.code.specs.Tests.{Ascending}
@@ -27,7 +27,7 @@ use Rattle.kept.specs.Kept.{Kept, RowsOn}
 use Rattle.turns.specs.declared.Move.{Move}
 use Rattle.turns.specs.declared.Move.the-variants.{Spent, Made}
 use Rattle.turns.specs.declared.Ended.{Ended}
-use Rattle.machine.specs.Machine.{Forms, State, Stage, on, failed, End, put, isOpen, dangling, some?, most, takeUpAll, settle, peel, guess, turn, run}
+use Rattle.machine.specs.Machine.{State, Stage, on, failed, End, put, isOpen, dangling, some?, most, takeUpAll, settle, peel, guess, turn, run}
 use Rattle.machine.specs.Report.{none?}
 use Rattle.machine.specs.Lists.{view, formsOf}
 use Rattle.forms.specs.Forms.{withLive, Topped, TakenAs}

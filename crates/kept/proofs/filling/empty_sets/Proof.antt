@@ -1,9 +1,8 @@
 -- `kept::filling::empty_sets` meets its contract. Assumes nothing.
 use mathlib.Core.Logic.{⊎-elim}
-use mathlib.Core.Path.{_≡_, sym, _∙_}
+use mathlib.Core.Path.{sym, _∙_}
 use Prim.Native.Nat.{_-_, _≤_}
 use native.Mathlib.Omega.{arith}
-use lib.ListN.{length}
 use borrow.Author.Needs.{needs}
 use Rattle.kept.proofs.KeptRows.{Emptying, emptying-start, emptying-open, emptying-not, emptying-end}
 use Rattle.kept.proofs.filling.empty_sets.Statement.{statement}

@@ -1,7 +1,6 @@
 -- `kept::filling::keep_row` meets its contract. Assumes nothing.
-use mathlib.Core.Path.{_≡_, sym, _∙_, subst}
 use native.Mathlib.Omega.{arith}
-use lib.ListN.{length, length-set}
+use lib.ListN.{length-set}
 use Rattle.kept.proofs.KeptRows.{added-as, kept-plain, kept-dangling}
 use borrow.Author.Needs.{needs}
 use Rattle.kept.proofs.filling.keep_row.Statement.{statement}

@@ -1,9 +1,8 @@
 -- `turns::closed::close_rows` meets its contract: the rows before row i are done. Assumes nothing.
 use borrow.Author.Needs.{needs}
-use mathlib.Core.Path.{_≡_, refl, _∙_}
-use Prim.Native.Nat.{_-_, _≤_}
+use mathlib.Core.Path.{refl, _∙_}
+use Prim.Native.Nat.{_-_}
 use native.Mathlib.Omega.{arith}
-use lib.ListN.{length}
 use Rattle.turns.proofs.ClosingRows.{ClosingAll, all-start, all-failed, all-turn, all-end}
 use Rattle.turns.proofs.closed.close_rows.Statement.{statement}
 use Rattle.turns.proofs.closed.close_rows.Tie as tie

@@ -3,7 +3,6 @@ use borrow.Author.Needs.{needs}
 use mathlib.Core.Path.{_≡_, _∙_}
 use Prim.Native.Nat.{ℕ, _-_, _≤_}
 use native.Mathlib.Omega.{arith}
-use lib.ListN.{length}
 use Rattle.turns.proofs.TakingRows.{Starting, starting, starting-failed, topped-on, starting-turn, starting-end, took-cleared}
 use Rattle.turns.proofs.closed.take_up_closed.Statement.{statement}
 use Rattle.turns.proofs.closed.take_up_closed.Tie as tie

@@ -2,7 +2,6 @@
 use native.Mathlib.Omega.{arith}
 use Rattle.turns.specs.Turns.{Working}
 use Rattle.turns.proofs.Marked.{ran-half}
-use borrow.Author.Needs.{needs}
 use Rattle.turns.proofs.half.run_marked.Statement.{statement}
 use Rattle.turns.proofs.half.run_marked.Tie as tie
 

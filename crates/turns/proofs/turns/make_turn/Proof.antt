@@ -1,5 +1,5 @@
 -- `turns::turns::make_turn` meets its contract. Assumes nothing.
-use mathlib.Core.Path.{refl, sym, _∙_}
+use mathlib.Core.Path.{refl}
 use native.Mathlib.Omega.{arith}
 use Rattle.kept.proofs.KeptRows.{open-below}
 use Rattle.turns.specs.Turns.{Working}

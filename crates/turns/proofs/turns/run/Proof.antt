@@ -2,7 +2,6 @@
 use borrow.Author.Needs.{needs}
 use mathlib.Core.Path.{_∙_}
 use native.Mathlib.Omega.{arith}
-use Rattle.turns.specs.Turns.{Working}
 use Rattle.turns.proofs.Running.{Goes, goes-start, goes-finished, goes-stopped, goes-spent, goes-failed, goes-on}
 use Rattle.turns.proofs.turns.run.Statement.{statement}
 use Rattle.turns.proofs.turns.run.Tie as tie
