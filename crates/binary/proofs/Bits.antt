@@ -3,7 +3,7 @@ use mathlib.Core.Path.{_≡_, refl, sym, ap, ap₂, _∙_, subst}
 use mathlib.Core.Bool.{Bool, true, false, not, _&&_, _||_, true≢false, Bool·beq}
 use mathlib.Core.Logic.{⊎-elim}
 use lib.Dec.{T, eqb, eqb→eq, eqb·suc-suc}
-use Prim.Native.Nat.{ℕ, zero, suc, _<_}
+use Prim.Native.Nat.{ℕ, zero, suc, _≤_, _<_}
 use native.Mathlib.Nat.{not-suc-le-zero, le-of-suc-le-suc, eq-or-lt-of-le}
 use native.Mathlib.Omega.{arith}
 use Rattle.binary.specs.Bits.{_⊕_, below, count, tally}
@@ -190,3 +190,20 @@ tally-up (suc n) p f f′ l a b h =
     slide : (x : Bool) (k : ℕ) → count x (suc k) ≡ suc (count x k)
     slide true k = refl
     slide false k = refl
+
+pub tally-few : (n : ℕ) (f : ℕ → Bool) → tally n f ≤ n
+tally-few zero f = omega arith
+tally-few (suc n) f = let rest = tally-few n f in bit (f n) (λ e. rw e (omega arith)) (λ e. rw e (omega arith))
+
+-- None passes the test exactly where none is counted.
+pub none-counted : (n : ℕ) (f : ℕ → Bool) → tally n f ≡ 0 → below n (λ q. not (f q)) ≡ true
+none-counted zero f e = refl
+none-counted (suc n) f e =
+    bit (f n) (λ i. let z : suc (tally n f) ≡ 0 = subst (λ (b : Bool). count b (tally n f) ≡ 0) i e in absurd (omega arith))
+    (λ i. rw i (none-counted n f (subst (λ (b : Bool). count b (tally n f) ≡ 0) i e)))
+
+pub counted-none : (n : ℕ) (f : ℕ → Bool) → below n (λ q. not (f q)) ≡ true → tally n f ≡ 0
+counted-none zero f e = refl
+counted-none (suc n) f e =
+    let z = and-out (not (f n)) (below n (λ q. not (f q))) e in
+    ap (λ (b : Bool). count b (tally n f)) (not-out (f n) (z .0)) ∙ counted-none n f (z .1)

@@ -1,2 +1,4 @@
 pub mod Tallying
-pub mod KeptRows
+pub mod Same
+pub mod Lowering
+pub mod Dangling

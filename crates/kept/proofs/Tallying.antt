@@ -1,35 +1,18 @@
 -- A row that joins the dangling rows or leaves them, and a row's number lowered. Assumes nothing.
 use mathlib.Core.Path.{_≡_, refl, sym, ap, _∙_}
 use mathlib.Core.Bool.{Bool, true, false, not, cond}
-use mathlib.Core.Logic.{_⊎_, inl, inr}
 use mathlib.Core.List.{List}
-use Prim.Native.Nat.{ℕ, zero, suc, _+_, _-_, _*_, _/_, _%_, _≤_, _<_}
+use Prim.Native.Nat.{ℕ, suc, _+_, _-_, _*_, _/_, _%_, _≤_, _<_}
 use native.Mathlib.Omega.{arith}
 use lib.Dec.{eqb, ltb}
 use lib.ListN.{length, getD, set, length-set}
 use lib.Seq.{getD-set-same, getD-set-other}
 use borrow.Author.Tests.{eq-eqb, ne-eqb, eqb-true, eqb-false, lt-ltb, le-ltb}
 use Rattle.binary.specs.Bits.{_⊕_, tally}
-use Rattle.binary.specs.Bits
 use Rattle.binary.specs.Words
-use Rattle.binary.proofs.Bits.{bit, ⊕-false, tally-same, tally-up}
-use Rattle.binary.proofs.WordBits.{order}
+use Rattle.binary.proofs.Bits.{bit, ⊕-false, not-out, below-out, tally-same, tally-up, tally-few, none-counted}
 use Rattle.bitsets.specs.Bitsets.{inSet, NextIn, Flipped}
-use Rattle.machine.specs.Machine.{isOpen}
-use Rattle.machine.specs.Lists.{view}
-use Rattle.kept.specs.Kept.{single?, Tallied, Changed, Lowered, Lowest, dangles?}
-
-----------------------------------------------------------------------
--- Marks read
-
-pub open-past : (n : ℕ) (marks : List ℕ) (q : ℕ) → n ≤ q → false ≡ isOpen (view n marks) q
-open-past n marks q h = rw (le-ltb q n h)
-
-pub shut : (n q : ℕ) → false ≡ eqb (cond (ltb q n) 0 0) 4
-shut n q = bit (ltb q n) (λ e. rw e) (λ e. rw e)
-
-pub open-read : (n : ℕ) (marks : List ℕ) (q : ℕ) → q < n → eqb (getD marks q 0) 4 ≡ isOpen (view n marks) q
-open-read n marks q h = rw (lt-ltb q n h)
+use Rattle.kept.specs.Kept.{single?, Tallied, Changed, Changes, Lowered, Lowest, dangles?}
 
 ----------------------------------------------------------------------
 -- The set and the total
@@ -66,12 +49,15 @@ module _ (i : ℕ) (joins : Bool) (old mid new : List ℕ) (few : i < 512) (long
   pub bare : joins ≡ false → total ≡ 0 → new ≡ mid → Changed i joins old new
   bare e h n = changed (rw n) (λ k d. rw n) (rw (n, e) (omega arith))
 
+module _ (i : ℕ) (joins : Bool) (old new : List ℕ) where
+  pub changes : 9216 ≤ length old → i < 512 → Changed i joins old new → Changes i joins old new
+  changes long few c = record { long = c .long; changed = λ a b. c; refused = λ f. absurd (f long few) }
+
+  pub unchanged : (9216 ≤ length old → i < 512 → ⊥) → new ≡ old → Changes i joins old new
+  unchanged f e = record { long = ap length e; changed = λ a b. absurd (f a b); refused = λ g. e }
+
 ----------------------------------------------------------------------
 -- A number lowered
-
-pub tally-few : (n : ℕ) (f : ℕ → Bool) → tally n f ≤ n
-tally-few zero f = omega arith
-tally-few (suc n) f = let rest = tally-few n f in bit (f n) (λ e. rw e (omega arith)) (λ e. rw e (omega arith))
 
 -- Where the row's number is set, and nothing else.
 module _ (i left : ℕ) (old : List ℕ) (few : i < 512) (long : 9216 ≤ length old) (is : left + 1 ≡ getD old (8704 + i) 0) where
@@ -188,20 +174,7 @@ module _ (i : ℕ) (old : List ℕ) where
 -- The lowest dangling row
 
 none-tallied : (n : ℕ) (f : ℕ → Bool) → tally n f ≡ 0 → (j : ℕ) → j < n → f j ≡ false
-none-tallied zero f e j h = absurd (omega arith)
-none-tallied (suc n) f e j h = by (order j n) (none-tallied n f (rest (f n) e) j)
-  where
-    rest : (b : Bool) → Bits.count b (tally n f) ≡ 0 → tally n f ≡ 0
-    rest true t = absurd (omega arith)
-    rest false t = t
-
-    last : (b : Bool) → f n ≡ b → Bits.count b (tally n f) ≡ 0 → f n ≡ false
-    last true i t = absurd (omega arith)
-    last false i t = i
-
-    by : (j < n) ⊎ (n ≤ j) → (j < n → f j ≡ false) → f j ≡ false
-    by (inl l) lower = lower l
-    by (inr l) lower = let same : n ≡ j = omega arith in rw (← same) (last (f n) refl e)
+none-tallied n f e j h = not-out (f j) (below-out n _ (none-counted n f e) j h)
 
 module _ (count : ℕ) (work : List ℕ) where
   pub lowest-short : length work < 9216 → Lowest count work count

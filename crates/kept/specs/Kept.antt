@@ -5,24 +5,20 @@
 --   Kept       the kept numbers are a fresh count over the marks
 --   RowsOn     the rows on each open qubit
 --   Tallied    the dangling rows are those whose kept number is 1
---   Lowered    a row has an open qubit less
+--   Changes    a row joins the dangling rows, or leaves them
+--   Lowered    a row has an open qubit less; LoweredRows: each row on a qubit
 --   Lowest     the lowest dangling row
---   Fills      everything kept of the rows, from the marks
 use mathlib.Core.Path.{_≡_}
 use mathlib.Core.Bool.{Bool, true, false, _&&_, cond}
 use mathlib.Core.List.{List}
 use Prim.Native.Nat.{ℕ, _+_, _-_, _≤_, _<_}
-use lib.Dec.{eqb, ltb, leb}
+use lib.Dec.{eqb, ltb}
 use lib.ListN.{length, getD}
 use Rattle.binary.specs.Bits.{_⊕_, tally}
-use Rattle.binary.specs.Meaning.{Qubits, All, has}
+use Rattle.binary.specs.Meaning.{Qubits, has}
 use Rattle.bitsets.specs.Bitsets.{inSet}
-use Rattle.code.specs.Lists.{rowsFrom}
-use Rattle.code.specs.Tests.{Ascending}
-use Rattle.code.proofs.Order.{Distinct}
-use Rattle.machine.specs.Machine.{isOpen, part}
-use Rattle.machine.specs.Lists.{view}
-use Rattle.kept.specs.Rows.{RowLists, readRow}
+use Rattle.machine.specs.Machine.{put, part}
+use Rattle.scans.specs.Rows.{RowLists, readRow, GoodRows}
 
 -- Row i of the half.
 abbrev pub rowIn : RowLists → ℕ → List ℕ
@@ -61,6 +57,12 @@ pub record Changed (i : ℕ) (joins : Bool) (old new : List ℕ) : Type 0 where
   pub below : (k : ℕ) → k < 8192 → getD new k 0 ≡ getD old k 0
   pub beyond : (k : ℕ) → 8201 ≤ k → getD new k 0 ≡ getD old k 0
 
+-- Where the list is too short or has no such row, nothing is written.
+pub record Changes (i : ℕ) (joins : Bool) (old new : List ℕ) : Type 0 where
+  pub long : length new ≡ length old
+  pub changed : 9216 ≤ length old → i < 512 → Changed i joins old new
+  pub refused : (9216 ≤ length old → i < 512 → ⊥) → new ≡ old
+
 -- The rows on the qubits stay. Where the list is long enough and the row's kept number is not 0, that number is one less, and the dangling rows are told anew.
 pub record Lowered (i : ℕ) (old new : List ℕ) (left : ℕ) : Type 0 where
   pub long : length new ≡ length old
@@ -70,43 +72,16 @@ pub record Lowered (i : ℕ) (old new : List ℕ) (left : ℕ) : Type 0 where
       → (left + 1 ≡ getD old (8704 + i) 0) × ((j : ℕ) → j < 512 → getD new (8704 + j) 0 ≡ cond (eqb i j) left (getD old (8704 + j) 0))
   pub tallied : 9216 ≤ length old → i < 512 → 1 ≤ getD old (8704 + i) 0 → (count : ℕ) → count ≤ 512 → i < count → Tallied count old → Tallied count new
 
+-- The rows on qubit p, which was open, are kept without it.
+pub record LoweredRows (p count : ℕ) (old new : List ℕ) : Type 0 where
+  pub long : length new ≡ length old
+  pub below : (k : ℕ) → k < 8192 → getD new k 0 ≡ getD old k 0
+  pub past : (k : ℕ) → 9216 ≤ k → getD new k 0 ≡ getD old k 0
+  pub kept : 9216 ≤ length old → p < 1024 → count ≤ 512 → (n : ℕ) (c : RowLists) → c .count ≡ count → GoodRows n c
+      → (o : Qubits) → o p ≡ true → Kept o c old → RowsOn o c old → Kept (put p false o) c new
+
 -- The number of rows, where none dangles.
 pub record Lowest (count : ℕ) (work : List ℕ) (r : ℕ) : Type 0 where
   pub within : r ≤ count
   pub lowest : 9216 ≤ length work → (o : Qubits) (c : RowLists) → c .count ≡ count → Kept o c work
       → (r < count → dangles? o c r ≡ true) × ((j : ℕ) → j < r → dangles? o c j ≡ false)
-
-----------------------------------------------------------------------
--- All rows
-
--- The sets of the open qubits and of the dangling rows are empty.
-pub record Emptied (n : ℕ) (marks old new : List ℕ) : Type 0 where
-  pub long : length new ≡ length old
-  pub sets : (q j : ℕ) → isOpen (view n marks) q ≡ true → j < 512 → inSet new q j ≡ false
-  pub dangling : (j : ℕ) → j < 512 → inSet new 1024 j ≡ false
-  pub total : getD new 8200 0 ≡ 0
-
--- Row i, which has no qubit twice, is on each of its open qubits; so many these are.
-pub record RowAdded (n i : ℕ) (row marks old new : List ℕ) (number : ℕ) : Type 0 where
-  pub long : length new ≡ length old
-  pub count : number ≡ length (part (isOpen (view n marks)) row)
-  pub beyond : (k : ℕ) → 8192 ≤ k → getD new k 0 ≡ getD old k 0
-  pub sets : Distinct row → (q j : ℕ) → isOpen (view n marks) q ≡ true → j < 512 → inSet new q j ≡ inSet old q j ⊕ (eqb j i && has row q)
-
--- The first rows are kept, those before i.
-pub record KeptTo (i n : ℕ) (c : RowLists) (marks work : List ℕ) : Type 0 where
-  pub counts : (j : ℕ) → j < i → getD work (8704 + j) 0 ≡ openIn (isOpen (view n marks)) c j
-  pub tallied : Tallied i work
-  pub free : (j : ℕ) → i ≤ j → j < 512 → inSet work 1024 j ≡ false
-  pub on : All (Ascending n) (rowsFrom (c .flat) (c .ends) (c .first) (c .count))
-      → (q j : ℕ) → isOpen (view n marks) q ≡ true → j < 512 → inSet work q j ≡ cond (ltb j i) (has (rowIn c j) q) false
-
-unfoldable pub fits? : ℕ → RowLists → ℕ → Bool
-fits? n c work =
-    leb n 1024 && leb (c .count) 512 && leb (c .first + c .count) 1024 && leb 9216 work && leb (c .first + c .count) (length (c .lit))
-
--- The list keeps its length. Where sizes and lists fit, what is kept is a fresh count over the marks, and of rows without repeats the rows on each qubit.
-pub record Fills (n : ℕ) (c : RowLists) (marks old new : List ℕ) : Type 0 where
-  pub long : length new ≡ length old
-  pub kept : fits? n c (length old) ≡ true → Kept (isOpen (view n marks)) c new
-  pub rows : fits? n c (length old) ≡ true → All (Ascending n) (rowsFrom (c .flat) (c .ends) (c .first) (c .count)) → RowsOn (isOpen (view n marks)) c new

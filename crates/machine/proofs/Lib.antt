@@ -11,3 +11,4 @@ pub mod Verdicts
 pub mod Demands
 pub mod Seen
 pub mod Unread
+pub mod Peeling

@@ -46,7 +46,7 @@ pub record Invariant (lost fixed o : Qubits) (R : Check → Type 0) (fs : Forms)
 ----------------------------------------------------------------------
 -- Parities and open qubits
 
-odd-open : (o z : Qubits) (r : Row) → ((q : ℕ) → o q ≡ false → z q ≡ false) → odd z r ≡ odd z (part o r)
+pub odd-open : (o z : Qubits) (r : Row) → ((q : ℕ) → o q ≡ false → z q ≡ false) → odd z r ≡ odd z (part o r)
 odd-open o z [] h = refl
 odd-open o z (q ∷ r) h = go (o q) refl (odd-open o z r h)
   where

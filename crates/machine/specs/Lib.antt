@@ -6,3 +6,4 @@ pub mod Lists
 pub mod Bench
 pub mod Demands
 pub mod Unread
+pub mod Peeling

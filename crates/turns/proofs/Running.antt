@@ -52,25 +52,6 @@ run-failed checks n choose budget limit zero st = refl
 run-failed checks n choose budget limit (suc m) st = refl
 
 ----------------------------------------------------------------------
--- The open qubits counted
-
-none-counted : (n : ℕ) (f : ℕ → Bool) → tally n f ≡ 0 → below n (λ q. not (f q)) ≡ true
-none-counted zero f e = refl
-none-counted (suc n) f e =
-    cases (f n) (λ i. let z : suc (tally n f) ≡ 0 = subst (λ (b : Bool). count b (tally n f) ≡ 0) i e in absurd (omega arith))
-    (λ i. rw i (none-counted n f (subst (λ (b : Bool). count b (tally n f) ≡ 0) i e)))
-
-counted-none : (n : ℕ) (f : ℕ → Bool) → below n (λ q. not (f q)) ≡ true → tally n f ≡ 0
-counted-none zero f e = refl
-counted-none (suc n) f e =
-    let z = and-out (not (f n)) (below n (λ q. not (f q))) e in
-    ap (λ (b : Bool). count b (tally n f)) (not-out (f n) (z .0)) ∙ counted-none n f (z .1)
-
-pub some-open : (n left : ℕ) (marks : List ℕ) → left ≡ marked n (view n marks) 4 → 0 < left → below n (λ q. not (isOpen (view n marks) q)) ≡ false
-some-open n left marks e l =
-    cases (below n (λ q. not (isOpen (view n marks) q))) (λ t. let z = counted-none n (isOpen (view n marks)) t in absurd (omega arith)) (λ t. t)
-
-----------------------------------------------------------------------
 -- The loop
 
 pub stays-on : (n : ℕ) (old mid new : Working) → Stays n old mid → Stays n mid new → Stays n old new

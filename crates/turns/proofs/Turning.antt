@@ -35,21 +35,9 @@ use Rattle.machine.proofs.Stages.{open-put}
 ----------------------------------------------------------------------
 -- An element stored
 
-pub view-set : (n : ℕ) (l : List ℕ) (p v : ℕ) → p < n → p < length l → view n (set l p v) ≡ put p v (view n l)
-view-set n l p v i j = fun-ext λ q. cases (eqb p q) (λ e. rw e (at q (eqb-eq p q e))) (λ e. rw e (off q e))
-  where
-    at : (q : ℕ) → p ≡ q → view n (set l p v) q ≡ v
-    at q e = subst (λ (x : ℕ). view n (set l p v) x ≡ v) e (rw (lt-ltb p n i) (getD-set-same l p v 0 j))
-
-    off : (q : ℕ) → eqb p q ≡ false → view n (set l p v) q ≡ view n l q
-    off q e = ap (λ (x : ℕ). cond (ltb q n) x 0) (getD-set-other l p q v 0 (λ k. never (subst (λ (x : ℕ). eqb p x ≡ true) (sym k) (eq-eqb p)) e))
-
 pub forms-set : (n : ℕ) (l : List ℕ) (p word : ℕ) → p < n → p < length l → formsOf n (set l p word) ≡ put p (bit word) (formsOf n l)
 forms-set n l p word i j =
     ap {B = ℕ → Form} (λ (f : ℕ → ℕ) (q : ℕ). bit (f q)) (view-set n l p word i j) ∙ fun-ext (λ q. cases (eqb p q) (λ e. rw e) (λ e. rw e))
-
-pub rest-set : (n : ℕ) (l : List ℕ) (p v : ℕ) → p < n → (q : ℕ) → n ≤ q → getD (set l p v) q 0 ≡ getD l q 0
-rest-set n l p v i q j = getD-set-other l p q v 0 (λ k. absurd (omega arith))
 
 ----------------------------------------------------------------------
 -- The rows that a turn closed

@@ -41,7 +41,7 @@ same-length : tie.Need-same-length
 same-length c = c .before .before .change .ensures .long ∙ length-set (c .before .before .before .before .before .before .before .before .before .before .args .work .now) _ _
 
 returns-4 : tie.Need-returns-4
-returns-4 c = lowered-none _ _ _ (search needs) (search needs) (omega (arith, c .before .before .before .before .before .if3 .left)) (c .before .before .before .before .if4 .taken) _ (c .before .before .change .ensures)
+returns-4 c = lowered-none _ _ _ (search needs) (search needs) (omega (arith, c .before .before .before .before .before .if3 .left)) (c .before .before .before .before .if4 .taken) _ (c .before .before .change .ensures .changed (rw length-set (search needs)) (search needs))
 
 change-requires-2 : tie.Need-change-requires-2
 change-requires-2 c κs = search needs
@@ -50,7 +50,7 @@ same-length-2 : tie.Need-same-length-2
 same-length-2 c = c .before .before .change2 .ensures .long ∙ length-set (c .before .before .before .before .before .before .before .before .before .before .before .args .work .now) _ _
 
 returns-5 : tie.Need-returns-5
-returns-5 c = lowered-one _ _ _ (search needs) (search needs) (omega (arith, c .before .before .before .before .before .before .if3 .left)) (c .before .before .before .before .if5 .taken) _ (c .before .before .change2 .ensures)
+returns-5 c = lowered-one _ _ _ (search needs) (search needs) (omega (arith, c .before .before .before .before .before .before .if3 .left)) (c .before .before .before .before .if5 .taken) _ (c .before .before .change2 .ensures .changed (rw length-set (search needs)) (search needs))
 
 same-length-3 : tie.Need-same-length-3
 same-length-3 c = search needs

@@ -1,0 +1,102 @@
+// What is kept of a half's rows, made from the marks.
+ghost use mathlib.Core.Path.{_≡_};
+ghost use mathlib.Core.List.{List};
+ghost use Prim.Native.Nat.{ℕ, suc, _+_, _≤_, _<_};
+ghost use lib.ListN.{length};
+ghost use Rattle.filling.specs.Filling.{Emptied, RowAdded, KeptTo, fits?, Fills};
+use code::Qubit;
+use code::Row;
+use code::Rows;
+
+// The sets of the open qubits and of the dangling rows are emptied.
+fn empty_sets(n: usize, marks: &[u8], work: &mut [u64])
+    requires { ⌜ (n ≤ 1024) × (9216 ≤ length (now work)) ⌝ }
+    ensures { λ _. ⌜ Emptied n (now (marks .entry)) (now (work .entry)) (now (work .exit)) ⌝ }
+{
+    let mut q: usize = 0;
+    while q < n {
+        if scans::is_open(n, marks, Qubit(q as u16)) {
+            lists::clear_words(work, 8 * q, 8 * q + 8);
+        }
+        q += 1;
+    }
+    lists::clear_words(work, 8192, 8201);
+}
+
+// Row i is on each of its open qubits; how many these are.
+fn add_row(n: usize, i: u16, row: &[u16], marks: &[u8], work: &mut [u64]) -> u64
+    requires { ⌜ (n ≤ 1024) × (i < 512) × (9216 ≤ length (now work)) ⌝ }
+    ensures { λ r. ⌜ RowAdded n i (now (row .entry)) (now (marks .entry)) (now (work .entry)) (now (work .exit)) r ⌝ }
+{
+    let mut open: u64 = 0;
+    let mut j: usize = 0;
+    while j < row.len() {
+        let q = row[j];
+        if scans::is_open(n, marks, Qubit(q)) {
+            bitsets::flip(work, q, i);
+            open += 1;
+        }
+        j += 1;
+    }
+    open
+}
+
+// Row i, after those before it.
+fn keep_row(
+    n: usize,
+    flat: &[u16],
+    ends: &[u16],
+    lit: &[u8],
+    first: u16,
+    count: u16,
+    i: u16,
+    marks: &[u8],
+    work: &mut [u64],
+)
+    requires { ⌜ (n ≤ 1024) × (count ≤ 512) × (i < count) × (9216 ≤ length (now work)) × (first + count ≤ length (now lit)) × (first + count ≤ 1024) ⌝ }
+    requires { ⌜ KeptTo i n (record { flat = now flat; ends = now ends; lit = now lit; first = first; count = count }) (now marks) (now work) ⌝ }
+    ensures { λ _. ⌜ (length (now (work .exit)) ≡ length (now (work .entry))) × KeptTo (suc i) n (record { flat = now (flat .entry); ends = now (ends .entry); lit = now (lit .entry); first = first; count = count }) (now (marks .entry)) (now (work .exit)) ⌝ }
+{
+    let row = scans::read_row(flat, ends, lit, Row(first + i));
+    let open = add_row(n, i, row, marks, work);
+    let at = 8704 + i as usize;
+    work[at] = open;
+    if open == 1 {
+        kept::change(i, true, work);
+    }
+}
+
+// Whether the sizes are document 01's and the lists long enough.
+fn fits(n: u16, lit: &[u8], rows: Rows, work: &[u64]) -> bool
+    ensures { λ r. ⌜ ((flat ends : List ℕ) → r ≡ fits? n (record { flat = flat; ends = ends; lit = now (lit .entry); first = rows .first .0; count = rows .count }) (length (now (work .entry)))) ⌝ }
+{
+    let first = rows.first;
+    let last = first.0 as usize + rows.count as usize;
+    (n <= 1024) & (rows.count <= 512) & (last <= 1024) & (9216 <= work.len()) & (last <= lit.len())
+}
+
+// Everything kept of the rows, from the marks.
+pub fn fill(
+    n: u16,
+    flat: &[u16],
+    ends: &[u16],
+    lit: &[u8],
+    rows: Rows,
+    marks: &[u8],
+    work: &mut [u64],
+)
+    ensures { λ _. ⌜ Fills n (record { flat = now (flat .entry); ends = now (ends .entry); lit = now (lit .entry); first = rows .first .0; count = rows .count }) (now (marks .entry)) (now (work .entry)) (now (work .exit)) ⌝ }
+{
+    if !fits(n, lit, rows, work) {
+        return;
+    }
+    let size = n as usize;
+    let first = rows.first;
+    let count = rows.count;
+    empty_sets(size, marks, work);
+    let mut i: u16 = 0;
+    while i < count {
+        keep_row(size, flat, ends, lit, first.0, count, i, marks, work);
+        i += 1;
+    }
+}

@@ -1,0 +1,56 @@
+-- Lists that keep the same numbers. Assumes nothing.
+use mathlib.Core.Path.{_≡_, sym, ap, _∙_, subst}
+use mathlib.Core.Bool.{true}
+use mathlib.Core.List.{List}
+use Prim.Native.Nat.{ℕ, zero, suc, _+_, _*_, _/_, _%_, _≤_, _<_}
+use native.Mathlib.Nat.{add-zero}
+use native.Mathlib.Omega.{arith}
+use lib.Dec.{eqb}
+use lib.ListN.{getD}
+use Rattle.binary.specs.Words
+use Rattle.binary.specs.Meaning.{Qubits, Row, All}
+use Rattle.binary.proofs.Bits.{tally-same}
+use Rattle.bitsets.specs.Bitsets.{inSet}
+use Rattle.code.specs.Lists.{rowAt, rowsFrom}
+use Rattle.scans.specs.Rows.{RowLists}
+use Rattle.kept.specs.Kept.{openIn, dangles?, Kept, RowsOn, single?, Tallied}
+
+-- Of rows that are each so, row i is.
+pub row-of : (P : Row → Type 0) (flat ends : List ℕ) (r number i : ℕ) → i < number → All P (rowsFrom flat ends r number) → P (rowAt flat ends (r + i))
+row-of P flat ends r zero i h a = absurd (omega arith)
+row-of P flat ends r (suc number) zero h a = rw (add-zero r) (a .0)
+row-of P flat ends r (suc number) (suc i) h a =
+    let e : suc r + i ≡ r + suc i = omega arith in subst (λ (x : ℕ). P (rowAt flat ends x)) e (row-of P flat ends (suc r) number i (omega arith) (a .1))
+
+-- Numbers that are a fresh count, and the dangling rows by them.
+pub kept-by : (o : Qubits) (c : RowLists) (work : List ℕ) → ((i : ℕ) → i < c .count → getD work (8704 + i) 0 ≡ openIn o c i) → Tallied (c .count) work → Kept o c work
+kept-by o c work counts t =
+    record {
+      counts = counts;
+      dangling = λ i h. t .dangling i h ∙ ap (λ (x : ℕ). eqb x 1) (counts i h);
+      total = t .total ∙ tally-same (c .count) (dangles? o c) (single? work) (λ i h. ap (λ (x : ℕ). eqb x 1) (counts i h));
+    }
+
+pub tallied-by : (o : Qubits) (c : RowLists) (work : List ℕ) → Kept o c work → Tallied (c .count) work
+tallied-by o c work k =
+    record {
+      dangling = λ i h. k .dangling i h ∙ ap (λ (x : ℕ). eqb x 1) (sym (k .counts i h));
+      total = k .total ∙ sym (tally-same (c .count) (dangles? o c) (single? work) (λ i h. ap (λ (x : ℕ). eqb x 1) (k .counts i h)));
+    }
+
+-- A list that has the same elements below 9216.
+pub kept-same : (o : Qubits) (c : RowLists) (work work′ : List ℕ) → c .count ≤ 512 → ((k : ℕ) → k < 9216 → getD work′ k 0 ≡ getD work k 0) → Kept o c work → Kept o c work′
+unfolding inSet
+kept-same o c work work′ few same k =
+    record {
+      counts = λ i h. same (8704 + i) (omega arith) ∙ k .counts i h;
+      dangling = λ i h. ap (λ (x : ℕ). Words.bit x (i % 64)) (same (8 * 1024 + i / 64) (omega arith)) ∙ k .dangling i h;
+      total = same 8200 (omega arith) ∙ k .total;
+    }
+
+-- One that has the same below 8192, and qubits that were open before.
+pub rows-same : (n : ℕ) (o o′ : Qubits) (c : RowLists) (work work′ : List ℕ) → c .count ≤ 512 → ((k : ℕ) → k < 8192 → getD work′ k 0 ≡ getD work k 0)
+    → ((q : ℕ) → o′ q ≡ true → (o q ≡ true) × (q < 1024)) → RowsOn o c work → RowsOn o′ c work′
+unfolding inSet
+rows-same n o o′ c work work′ few same was r =
+    record { on = λ q i e h. let w = was q e in let b = w .1 in ap (λ (x : ℕ). Words.bit x (i % 64)) (same (8 * q + i / 64) (omega arith)) ∙ r .on q i (w .0) h }

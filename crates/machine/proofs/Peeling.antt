@@ -1,0 +1,133 @@
+-- Where peeling leaves nothing, no qubit is fixed, and no guess is made: the rule is never asked. Assumes nothing.
+use mathlib.Core.Path.{_≡_, refl, sym, ap, _∙_, fun-ext, subst}
+use mathlib.Core.Bool.{Bool, true, false, not, cond}
+use mathlib.Core.Option.{Option, none, some}
+use mathlib.Core.List.{List, [], _∷_}
+use Prim.Native.Nat.{ℕ, zero, suc, _+_, _<_}
+use native.Mathlib.Nat.{zero-add}
+use native.Mathlib.Omega.{arith}
+use lib.Dec.{eqb}
+use Rattle.binary.specs.Bits.{_⊕_, below}
+use Rattle.binary.specs.Meaning.{Qubits, Row, Check, All, odd, Inside, product, Fixed, fixed?}
+use Rattle.binary.specs.Classes.{Commuting}
+use Rattle.binary.proofs.Bits.{⊕-false, bit, never, below-out, below-in, not-out, not-in, eq-eqb, eqb-eq}
+use Rattle.binary.proofs.Rows.{all-out, odd-product}
+use Rattle.binary.proofs.Tests.{fixed-out}
+use Rattle.machine.specs.Machine.{Forms, State, Stage, on, failed, End, put, isOpen, dangling, closing, takeUpAll, stage, side, peel, turnBy, turn, noneOpen, onward, run, checks}
+use Rattle.machine.specs.Peeling.{peelStep, peeled, peelsAway, PeelLaw}
+use Rattle.machine.proofs.Runs.{before-cases}
+use Rattle.machine.proofs.Settling.{odd-open, shut-less}
+use Rattle.machine.proofs.Stages.{dangling-is, open-put}
+use Rattle.machine.proofs.Demands.{commuting}
+
+----------------------------------------------------------------------
+-- An error that fires no row is 0 on what peels
+
+-- No row fires on the error.
+abbrev Silent : Qubits → List Check → Type 0
+Silent e cs = All (λ c. odd e (c .row) ≡ false) cs
+
+-- The qubit that a dangling row settles.
+settled-zero : (cs : List Check) (o e : Qubits) → Inside e o → Silent e cs → (d : ℕ × Check) → dangling o cs ≡ some d → e (d .0) ≡ false
+settled-zero cs o e i s d h =
+    let z = dangling-is o cs d h in
+    let off : (x : ℕ) → o x ≡ false → e x ≡ false = λ x f. bit (e x) (λ t. never (i x t) f) (λ t. t) in
+    sym (⊕-false (e (d .0))) ∙ ap (odd e) (sym (z .0)) ∙ sym (odd-open o e (d .1 .row) off) ∙ all-out (λ c. odd e (c .row) ≡ false) cs s (d .1) (z .1)
+
+-- The error lies in what is left, after each step.
+still-inside : (cs : List Check) (o e : Qubits) → Inside e o → Silent e cs → Inside e (peelStep (dangling o cs) o)
+still-inside cs o e i s = look (dangling o cs) refl
+  where
+    look : (d : Option (ℕ × Check)) → dangling o cs ≡ d → Inside e (peelStep d o)
+    look none h = i
+    look (some d) h =
+        λ q t. bit (eqb (d .0) q) (λ u. never t (ap e (sym (eqb-eq (d .0) q u)) ∙ settled-zero cs o e i s d h)) (λ u. rw u (i q t))
+
+peeled-inside : (cs : List Check) (m : ℕ) (o e : Qubits) → Inside e o → Silent e cs → Inside e (peeled cs m o)
+peeled-inside cs zero o e i s = i
+peeled-inside cs (suc m) o e i s = peeled-inside cs m (peelStep (dangling o cs) o) e (still-inside cs o e i s) s
+
+silent : (others : List Row) (c : ℕ → Bool) (e : Qubits) → ((q : ℕ) → e q ≡ product others c q) → (cs : List Check) → Commuting others cs → Silent e cs
+silent others c e same [] v = tt
+silent others c e same (k ∷ cs) v =
+    (ap (λ (f : Qubits). odd f (k .row)) (fun-ext same) ∙ odd-product others (k .row) (v .0) c, silent others c e same cs (v .1))
+
+pub peel-law : PeelLaw
+unfolding PeelLaw peelsAway
+peel-law h obeys away q = bit (fixed? (h .size) (h .others) (h .lost) q) (λ t. go (fixed-out (h .size) (h .others) (h .lost) (obeys .others-below) q t)) (λ t. t)
+  where
+    go : Fixed (h .others) (h .lost) q → fixed? (h .size) (h .others) (h .lost) q ≡ false
+    go f =
+        let s : Qubits = f .0 in
+        let quiet = silent (h .others) (f .1 .0) s (f .1 .1) (checks h) (commuting (h .others) 0 (h .lit) (h .unread) (h .rows) (obeys .commute)) in
+        let inside = peeled-inside (checks h) (h .size) (h .lost) s (f .2) quiet q (f .3 .0) in
+        never inside (not-out (peeled (checks h) (h .size) (h .lost) q) (below-out (h .size) _ away q (obeys .lost-below q (f .2 q (f .3 .0)))))
+
+----------------------------------------------------------------------
+-- Steps after steps
+
+pub peeled-plus : (cs : List Check) (k j : ℕ) (o : Qubits) → peeled cs (k + j) o ≡ peeled cs j (peeled cs k o)
+peeled-plus cs zero j o = ap (λ (m : ℕ). peeled cs m o) (zero-add j)
+peeled-plus cs (suc k) j o =
+    let e : suc k + j ≡ suc (k + j) = omega arith in
+    ap (λ (m : ℕ). peeled cs m o) e ∙ peeled-plus cs k j (peelStep (dangling o cs) o)
+
+step-less : (d : Option (ℕ × Check)) (o : Qubits) (q : ℕ) → peelStep d o q ≡ true → o q ≡ true
+step-less none o q t = t
+step-less (some d) o q t = bit (o q) (λ e. e) (λ e. never t (shut-less o (d .0) q e))
+
+-- A qubit that is left was open.
+pub peeled-less : (cs : List Check) (m : ℕ) (o : Qubits) (q : ℕ) → peeled cs m o q ≡ true → o q ≡ true
+peeled-less cs zero o q t = t
+peeled-less cs (suc m) o q t = step-less (dangling o cs) o q (peeled-less cs m (peelStep (dangling o cs) o) q t)
+
+----------------------------------------------------------------------
+-- No guess is made where peeling leaves nothing
+
+-- Where no row dangles, no step changes anything.
+pub peeled-stays : (cs : List Check) (m : ℕ) (o : Qubits) → dangling o cs ≡ none → peeled cs m o ≡ o
+peeled-stays cs zero o h = refl
+peeled-stays cs (suc m) o h = ap (λ (d : Option (ℕ × Check)). peeled cs m (peelStep d o)) h ∙ peeled-stays cs m o h
+
+-- So many steps leave no qubit below n.
+abbrev pub Away : List Check → ℕ → ℕ → Qubits → Type 0
+Away cs n k o = (q : ℕ) → q < n → peeled cs k o q ≡ false
+
+module _ (cs : List Check) (n : ℕ) (choose choose′ : Qubits → Option ℕ) (budget limit : ℕ) where
+  abbrev AwayAt : ℕ → Stage → Type 0
+  AwayAt k (on st) = Away cs n k (isOpen (st .mark))
+  AwayAt k (failed st) = Unit {0}
+
+  after : (k p m turns : ℕ) (mark : ℕ → ℕ) (r : Option Forms) → Away cs n k (isOpen (put p m mark)) → AwayAt k (stage (put p m mark) turns r)
+  after k p m turns mark none a = tt
+  after k p m turns mark (some fs) a = a
+
+  -- Where a qubit is open a row dangles, and the turn is a step.
+  steps : (st : State) (k : ℕ) → Away cs n k (isOpen (st .mark)) → noneOpen cs n choose st ≡ false
+      → (turn cs n choose st ≡ turn cs n choose′ st) × ((j : ℕ) × AwayAt j (turn cs n choose st))
+  steps st zero a some-open = never (below-in n _ (λ q l. not-in (a q l))) some-open
+  steps st (suc k) a some-open = look (dangling (isOpen (st .mark)) cs) refl
+    where
+      look : (d : Option (ℕ × Check)) → dangling (isOpen (st .mark)) cs ≡ d
+          → (turn cs n choose st ≡ turn cs n choose′ st) × ((j : ℕ) × AwayAt j (turn cs n choose st))
+      look none h =
+          let stays = peeled-stays cs (suc k) (isOpen (st .mark)) h in
+          never (below-in n _ (λ q l. not-in (sym (ap (λ (o : Qubits). o q) stays) ∙ a q l))) some-open
+      look (some d) h =
+          let next : Away cs n k (isOpen (put (d .0) 2 (st .mark))) =
+              rw (open-put (d .0) 2 (st .mark) refl) (subst (λ (x : Option (ℕ × Check)). Away cs n k (peelStep x (isOpen (st .mark)))) h a) in
+          let fs : Forms = record { form = put (d .0) (side (st .forms) (d .1)) (st .forms .form); live = st .forms .live } in
+          let at : AwayAt k (peel cs st (d .0) (d .1)) =
+              after k (d .0) 2 (suc (st .turns)) (st .mark) (takeUpAll (closing (st .mark) (put (d .0) 2 (st .mark))) cs fs) next in
+          (rw h, (k, subst (λ (x : Option (ℕ × Check)). AwayAt k (turnBy cs n choose st x (choose (isOpen (st .mark))))) (sym h) at))
+
+  pub rule-unasked : (m : ℕ) (s : Stage) (k : ℕ) → AwayAt k s → run cs n choose budget limit m s ≡ run cs n choose′ budget limit m s
+  unfolding run
+  rule-unasked zero (on st) k a = refl
+  rule-unasked zero (failed st) k a = refl
+  rule-unasked (suc m) (failed st) k a = refl
+  rule-unasked (suc m) (on st) k a =
+      before-cases cs n choose budget limit st
+      (λ b. onward cs n choose b st (run cs n choose budget limit m) (turn cs n choose st) ≡ onward cs n choose′ b st (run cs n choose′ budget limit m) (turn cs n choose′ st))
+      (λ w e s. refl)
+      (λ u. let z = steps st k a (u .some-open) in rule-unasked m (turn cs n choose st) (z .1 .0) (z .1 .1) ∙ ap (run cs n choose′ budget limit m) (z .0))

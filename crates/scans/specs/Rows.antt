@@ -1,0 +1,40 @@
+-- The rows of a half in the lists of the code, with their readings.
+--   RowLists    the lists, with the half's first row and how many it has
+--   read?       whether a row was read; readRow: its qubits, none of an unread row
+--   checksFrom  the rows that were read, from a row on, with their readings; rowChecks: the half's
+--   GoodRows    the half's rows are strictly ascending and below n
+use mathlib.Core.Bool.{Bool, not, cond}
+use mathlib.Core.List.{List, []}
+use Prim.Native.Nat.{ℕ, zero, suc}
+use lib.ListN.{getD}
+use Rattle.binary.specs.Meaning.{All, Check}
+use Rattle.code.specs.Lists.{rowAt, rowsFrom}
+use Rattle.code.specs.Tests.{Ascending}
+use Rattle.machine.specs.Machine.{keepIf}
+use Rattle.machine.specs.Lists.{lit?, unread?}
+
+pub record RowLists : Type 0 where
+  pub flat : List ℕ
+  pub ends : List ℕ
+  pub lit : List ℕ
+  pub first : ℕ
+  pub count : ℕ
+
+abbrev pub checkAt : List ℕ → List ℕ → List ℕ → ℕ → Check
+checkAt flat ends lit r = record { lit = lit? (getD lit r 0); row = rowAt flat ends r }
+
+abbrev pub read? : List ℕ → ℕ → Bool
+read? lit r = not (unread? (getD lit r 0))
+
+abbrev pub readRow : List ℕ → List ℕ → List ℕ → ℕ → List ℕ
+readRow flat ends lit r = cond (read? lit r) (rowAt flat ends r) []
+
+abbrev pub checksFrom : List ℕ → List ℕ → List ℕ → ℕ → ℕ → List Check
+checksFrom flat ends lit r zero = []
+checksFrom flat ends lit r (suc count) = keepIf (read? lit r) (checkAt flat ends lit r) (checksFrom flat ends lit (suc r) count)
+
+abbrev pub rowChecks : RowLists → List Check
+rowChecks c = checksFrom (c .flat) (c .ends) (c .lit) (c .first) (c .count)
+
+abbrev pub GoodRows : ℕ → RowLists → Type 0
+GoodRows n c = All (Ascending n) (rowsFrom (c .flat) (c .ends) (c .first) (c .count))
