@@ -96,11 +96,11 @@ module _ (n : ℕ) (c : RowLists) (p : ℕ) (o : Qubits) (work₀ : List ℕ) (s
           (λ (l : i ≤ j). ⊎-elim (λ (m : j < i′). rw (le-ltb j i l, lt-ltb j i′ m) (sym (ap length (not-has o p (rowIn c j) (off j l m)))))
           (λ (m : i′ ≤ j). rw (le-ltb j i l, le-ltb j i′ m)) (order j i′)) (order j i)
 
+  pub lowering-none : Lowering c p o 0 work₀
+  lowering-none = record { counts = λ j h. rw (le-ltb j 0 (omega arith)) (g .kept .counts j h); tallied = tallied-by o c work₀ (g .kept) }
+
   pub lowering-start : (i : ℕ) → NextIn work₀ p 0 (c .count) i → Lowering c p o i work₀
-  lowering-start i f =
-      let w = f .within (omega arith) in
-      lowering-pass 0 i work₀ (λ k h. refl)
-      (record { counts = λ j h. rw (le-ltb j 0 (omega arith)) (g .kept .counts j h); tallied = tallied-by o c work₀ (g .kept) }) (omega arith) (w .1) (f .skipped)
+  lowering-start i f = let w = f .within (omega arith) in lowering-pass 0 i work₀ (λ k h. refl) lowering-none (omega arith) (w .1) (f .skipped)
 
   -- Row i, which is on the qubit.
   module _ (i : ℕ) (work : List ℕ) (same : Rows work) (s : Lowering c p o i work) (h : i < c .count) (found : inSet work p i ≡ true) (long : 9216 ≤ length work)

@@ -1,8 +1,3 @@
-pub mod Scanning
-pub mod Degrees
-pub mod Choices
-pub mod TakingRows
-pub mod ClosingRows
 pub mod Turning
 pub mod Moves
 pub mod Running

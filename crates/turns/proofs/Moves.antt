@@ -1,34 +1,33 @@
 -- A turn by the kept numbers is the machine's. Assumes nothing.
 use mathlib.Core.Path.{_≡_, refl, sym, ap, _∙_, subst}
-use mathlib.Core.Bool.{Bool, true, false, not, cond}
+use mathlib.Core.Bool.{Bool, true, false, not}
 use mathlib.Core.Option.{Option, none, some}
-use mathlib.Core.List.{List, [], _∷_}
-use Prim.Native.Nat.{ℕ, zero, suc, _+_, _-_, _≤_, _<_}
+use mathlib.Core.List.{List}
+use Prim.Native.Nat.{ℕ, zero, suc, _+_, _≤_, _<_}
 use native.Mathlib.Omega.{arith}
 use lib.Dec.{eqb}
 use lib.ListN.{length, getD}
-use borrow.Author.Tests.{eqb-true}
 use Rattle.binary.specs.Bits.{below}
-use Rattle.binary.specs.Meaning.{Qubits, Check}
+use Rattle.binary.specs.Meaning.{Qubits}
 use Rattle.binary.proofs.Bits.{never, eq-eqb, eqb-differ, below-in, not-in}
 use Rattle.code.specs.declared.Qubit.{Qubit}
-use Rattle.turns.specs.declared.Choice.{Choice}
-use Rattle.turns.specs.declared.Choice.the-variants.{NoQubit, Named}
+use Rattle.guessing.specs.declared.Choice.{Choice}
+use Rattle.guessing.specs.declared.Choice.the-variants.{NoQubit, Named}
 use Rattle.forms.specs.declared.Taken.{Taken}
 use Rattle.turns.specs.declared.Move.the-variants.{Spent, Made}
 use Rattle.turns.specs.declared.Ended.{Ended}
 use Rattle.machine.specs.declared.Word.the-variants.{Certain, Unsure}
 use Rattle.machine.specs.Words.{finished}
-use Rattle.machine.specs.Machine.{isOpen, keepIf, part, only, orElse, dangling}
+use Rattle.machine.specs.Machine.{isOpen, dangling}
 use Rattle.machine.specs.Lists.{view}
-use Rattle.kept.specs.Rows.{RowLists, checksFrom, rowChecks}
-use Rattle.kept.specs.Kept.{rowIn, dangles?, Lowest}
-use Rattle.turns.specs.Lists.{choiceOf}
-use Rattle.turns.specs.Scans.{OpenFrom, degreeOf}
+use Rattle.scans.specs.Rows.{RowLists, rowChecks}
+use Rattle.scans.specs.Scans.{OpenFrom}
+use Rattle.scans.proofs.Checks.{here}
+use Rattle.kept.specs.Kept.{dangles?, Lowest}
+use Rattle.kept.proofs.Dangling.{dangling-none, found-inside, dangling-found}
+use Rattle.guessing.specs.Guessing.{degreeOf, choiceOf}
 use Rattle.turns.specs.Turns.{Working, Ready, Stays, Turned, peelBy, guessBy, turnBy, mostBy, Moved}
 use Rattle.machine.proofs.Guessing.{most-rule}
-use Rattle.turns.proofs.Scanning.{one-inside, one-open}
-use Rattle.turns.proofs.TakingRows.{from, here, was-read, from-all, from-none}
 
 ----------------------------------------------------------------------
 -- The qubit that the rule names

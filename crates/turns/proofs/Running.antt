@@ -7,9 +7,8 @@ use Prim.Native.Nat.{ℕ, zero, suc, _+_, _-_, _≤_, _<_, zero-le}
 use native.Mathlib.Omega.{arith}
 use native.Mathlib.Numerals.{add-one, lt-of-le-of-ne}
 use lib.Dec.{eqb}
-use Rattle.binary.specs.Bits.{below, count, tally}
 use Rattle.binary.specs.Meaning.{Qubits, Check}
-use Rattle.binary.proofs.Bits.{bit as cases, never, eq-eqb, eqb-differ, and-out, not-out}
+use Rattle.binary.proofs.Bits.{never, eq-eqb, eqb-differ, none-counted}
 use Rattle.machine.specs.declared.Word.{Word}
 use Rattle.machine.specs.declared.Word.the-variants.{None, Stopped}
 use Rattle.machine.specs.declared.Word
@@ -23,10 +22,10 @@ use Rattle.machine.specs.Machine.{State, Stage, on, failed, End, isOpen, noneOp
 use Rattle.machine.specs.Report.{marked}
 use Rattle.machine.specs.Lists.{view}
 use Rattle.turns.specs.Lists.{stateOf}
-use Rattle.kept.specs.Rows.{RowLists, rowChecks}
-use Rattle.kept.proofs.KeptRows.{open-below}
-use Rattle.turns.specs.Scans.{degreeOf}
-use Rattle.turns.specs.Turns.{Working, GoodRows, Stays, Ready, StageAs, Turns, turnBy, mostBy, spent?, MovedBy, Moved, EndedAs, runFrom, RunEnds}
+use Rattle.scans.specs.Rows.{RowLists, rowChecks, GoodRows}
+use Rattle.scans.proofs.Scanning.{open-below, some-open}
+use Rattle.guessing.specs.Guessing.{degreeOf}
+use Rattle.turns.specs.Turns.{Working, Stays, Ready, StageAs, Turns, turnBy, mostBy, spent?, MovedBy, Moved, EndedAs, runFrom, RunEnds}
 use Rattle.machine.proofs.Runs.{Unsaid}
 use Rattle.machine.proofs.Guessing.{most-rule}
 use Rattle.machine.proofs.Budgets.{FewAt, few-turn}

@@ -21,14 +21,16 @@ use Rattle.forms.specs.declared.Taken.the-variants.{Live}
 use Rattle.machine.specs.Machine.{Form, Forms, put, isOpen, part, empty?, closed?, closing, side, takeUpAll, stage, settle}
 use Rattle.machine.specs.Lists.{view, formsOf}
 use Rattle.forms.specs.Forms.{withLive, Topped, TakenAs}
-use Rattle.turns.specs.Lists.{stateOf, closedAt?}
+use Rattle.turns.specs.Lists.{stateOf}
 use Rattle.forms.specs.Sides.{check, IsSide}
-use Rattle.kept.specs.Rows.{RowLists, rowChecks}
+use Rattle.scans.specs.Rows.{RowLists, rowChecks}
+use Rattle.scans.proofs.Scanning.{open-below, view-set, rest-set}
 use Rattle.kept.specs.Kept.{Kept}
-use Rattle.kept.proofs.KeptRows.{open-below, rows-same}
-use Rattle.turns.specs.Turns.{Working, Ready, StageAs, TakenRows, ClosedRows, Turns, Turned, ToppedWord, settleBy, Settled, peelBy, guessBy}
-use Rattle.turns.proofs.TakingRows.{never-live}
-use Rattle.turns.proofs.ClosingRows.{not-has}
+use Rattle.kept.proofs.Same.{rows-same}
+use Rattle.kept.proofs.Lowering.{not-has}
+use Rattle.closing.specs.Closing.{closedAt?, TakenRows, ClosingRows, fits?, fitting, ClosedRows}
+use Rattle.closing.proofs.TakingRows.{never-live}
+use Rattle.turns.specs.Turns.{Working, Ready, StageAs, Turns, Turned, ToppedWord, settleBy, Settled, peelBy, guessBy}
 use Rattle.machine.proofs.Settling.{side-top}
 use Rattle.machine.proofs.Stages.{open-put}
 
@@ -96,7 +98,7 @@ module _ (n : ℕ) (c : RowLists) (old : Working) (forms′ work′ : List ℕ) 
   topped-set top top-word q k l =
       ap (λ (f : ℕ → Form). f q k) (forms-set n (old .forms) p word below in-forms) ∙ cases (eqb p q) (λ e. rw e (top-word k l)) (λ e. rw e (top q k l))
 
-  pub settled : ClosedRows n c p live (set (old .forms) p word) forms′ (old .work) work′ t → Settled n c p m word live old new t
+  pub settled : ClosingRows n c p live (set (old .forms) p word) forms′ (old .work) work′ t → Settled n c p m word live old new t
   unfolding settleBy
   settled v =
       record {

@@ -1,5 +1,3 @@
 pub mod Lists
-pub mod Scans
-pub mod Taking
 pub mod Turns
 pub mod Runs

@@ -1,6 +1,7 @@
 -- What the turns of a half promise, from the marks of its start.
 --   stageIn     the stage that a half starts in, of its marks
---   endOf       how the half ends from there
+--   Begins      what is kept of the rows is right over the marks
+--   endOf       how the half ends from there, by the numbers of rows on each qubit that the work list has
 --   TurnedHalf  the turns: how the half ended
 --   reportBy    the report of a half, counted from its marks
 --   Ran         the report and the lists are those of an end
@@ -12,26 +13,31 @@ use mathlib.Core.List.{List}
 use Prim.Native.Nat.{ℕ, suc, _+_}
 use lib.Dec.{leb}
 use lib.ListN.{length}
-use Rattle.kept.specs.Rows.{RowLists, rowChecks}
-use Rattle.kept.specs.Kept.{Kept}
+use Rattle.scans.specs.Rows.{RowLists, rowChecks, GoodRows}
+use Rattle.kept.specs.Kept.{Kept, RowsOn}
 use Rattle.machine.specs.declared.HalfReport.{HalfReport}
-use Rattle.machine.specs.Machine.{Stage, End, isOpen, closed?, takeUpAll, blank, stage, degree, most, run}
+use Rattle.machine.specs.Machine.{Stage, End, isOpen, closed?, takeUpAll, blank, stage, run}
 use Rattle.machine.specs.Report.{marked, none?, report}
 use Rattle.machine.specs.Lists.{view, formsOf}
 use Rattle.turns.specs.declared.RunAnswer.{RunAnswer}
 use Rattle.turns.specs.declared.RunAnswer.the-variants.{Refused, Over}
 use Rattle.turns.specs.declared.Ended.{Ended}
-use Rattle.turns.specs.Turns.{Working, GoodRows, Stays, EndedAs}
+use Rattle.turns.specs.Turns.{Working, Stays, mostBy, EndedAs}
 
 abbrev pub stageIn : ℕ → RowLists → List ℕ → Stage
 stageIn n c marks = stage (view n marks) 0 (takeUpAll (closed? (isOpen (view n marks))) (rowChecks c) blank)
 
-abbrev pub endOf : ℕ → RowLists → ℕ → ℕ → List ℕ → End
-endOf n c budget limit marks = run (rowChecks c) n (most (degree (rowChecks c)) n) budget limit (suc limit) (stageIn n c marks)
+pub record Begins (n : ℕ) (c : RowLists) (l : Working) : Type 0 where
+  pub good : GoodRows n c
+  pub kept : Kept (isOpen (view n (l .marks))) c (l .work)
+  pub on : RowsOn (isOpen (view n (l .marks))) c (l .work)
+
+abbrev pub endOf : ℕ → RowLists → ℕ → ℕ → Working → End
+endOf n c budget limit l = run (rowChecks c) n (mostBy n (l .work)) budget limit (suc limit) (stageIn n c (l .marks))
 
 pub record TurnedHalf (n : ℕ) (c : RowLists) (budget limit : ℕ) (old new : Working) (r : Ended) : Type 0 where
   pub stays : Stays n old new
-  pub ends : GoodRows n c → EndedAs n c new r (endOf n c budget limit (old .marks))
+  pub ends : Begins n c old → EndedAs n c new r (endOf n c budget limit old)
 
 -- The counts of the marks.
 abbrev pub reportBy : ℕ → Ended → List ℕ → HalfReport
@@ -55,7 +61,7 @@ pub record Ran (n : ℕ) (c : RowLists) (new : Working) (r : HalfReport) (e : En
 
 pub record RanHalf (n : ℕ) (c : RowLists) (budget limit : ℕ) (old new : Working) (r : HalfReport) : Type 0 where
   pub stays : Stays n old new
-  pub ran : GoodRows n c → Ran n c new r (endOf n c budget limit (old .marks))
+  pub ran : Begins n c old → Ran n c new r (endOf n c budget limit old)
 
 -- Of the lengths of the lists.
 unfoldable pub fits? : ℕ → ℕ → ℕ → ℕ → ℕ → ℕ → ℕ → ℕ → Bool
@@ -66,9 +72,9 @@ abbrev pub fitting : ℕ → RowLists → ℕ → Working → Bool
 fitting n c budget l = fits? n (length (c .lit)) (c .first) (c .count) budget (length (l .work)) (length (l .marks)) (length (l .forms))
 
 -- For every input lists keep their lengths, marks and forms what is past n. Where sizes and lists fit, the turns are made: of rows that are strictly
--- ascending and below n, as the machine makes them. Otherwise nothing is written.
+-- ascending and below n, and of what is kept of them, as the machine makes them. Otherwise nothing is written.
 pub record Runs (n : ℕ) (c : RowLists) (budget limit : ℕ) (old new : Working) (r : RunAnswer) : Type 0 where
   pub stays : Stays n old new
   pub refused : fitting n c budget old ≡ false → (r ≡ Refused) × (new ≡ old)
   pub over : fitting n c budget old ≡ true
-      → (e : HalfReport) × (r ≡ Over e) × (GoodRows n c → Ran n c new e (endOf n c budget limit (old .marks)))
+      → (e : HalfReport) × (r ≡ Over e) × (Begins n c old → Ran n c new e (endOf n c budget limit old))

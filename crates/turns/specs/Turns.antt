@@ -1,11 +1,9 @@
 -- What the functions of a turn do to the lists.
 --   Working     the lists of a half at work: marks, forms, and what is kept of its rows
---   GoodRows    the half's rows are strictly ascending and below n
 --   Ready       the forms have no bit above the live guesses, and what is kept of the rows is so
 --   StageAs     the lists and the answer are a stage of the machine
 --   Turns       of lists that are ready, the stage that a turn leads to, with lists that are ready again
 --   Turned      the same, and elements past n as they were, whatever the lists hold
---   ClosedRows  the rows on a settled qubit that it closed, taken up
 --   Moved       a turn, or that the budget is spent
 --   EndedAs     the lists and the answer are the end of a half
 use mathlib.Core.Path.{_≡_}
@@ -16,31 +14,26 @@ use Prim.Native.Nat.{ℕ, suc, _≤_, _<_}
 use lib.Dec.{eqb}
 use lib.ListN.{length, getD}
 use Rattle.binary.specs.Bits.{below}
-use Rattle.binary.specs.Meaning.{Qubits, All}
+use Rattle.binary.specs.Meaning.{Qubits}
 use Rattle.binary.specs.Words.{bit}
-use Rattle.code.specs.Lists.{rowsFrom}
-use Rattle.code.specs.Tests.{Ascending}
 use Rattle.forms.specs.declared.Taken.{Taken}
 use Rattle.forms.specs.declared.Taken.the-variants.{Failed, Live}
-use Rattle.kept.specs.Rows.{RowLists, checkAt, rowChecks}
+use Rattle.scans.specs.Rows.{RowLists, checkAt, rowChecks, GoodRows}
 use Rattle.kept.specs.Kept.{Kept, RowsOn}
 use Rattle.turns.specs.declared.Move.{Move}
 use Rattle.turns.specs.declared.Move.the-variants.{Spent, Made}
 use Rattle.turns.specs.declared.Ended.{Ended}
-use Rattle.machine.specs.Machine.{State, Stage, on, failed, End, put, isOpen, dangling, some?, most, takeUpAll, settle, peel, guess, turn, run}
+use Rattle.machine.specs.Machine.{State, Stage, on, failed, End, put, isOpen, dangling, some?, most, settle, peel, guess, turn, run}
 use Rattle.machine.specs.Report.{none?}
 use Rattle.machine.specs.Lists.{view, formsOf}
-use Rattle.forms.specs.Forms.{withLive, Topped, TakenAs}
-use Rattle.turns.specs.Lists.{stateOf, closedAt?}
-use Rattle.turns.specs.Scans.{degreeOf}
+use Rattle.forms.specs.Forms.{Topped}
+use Rattle.guessing.specs.Guessing.{degreeOf}
+use Rattle.turns.specs.Lists.{stateOf}
 
 pub record Working : Type 0 where
   pub marks : List ℕ
   pub forms : List ℕ
   pub work : List ℕ
-
-abbrev pub GoodRows : ℕ → RowLists → Type 0
-GoodRows n c = All (Ascending n) (rowsFrom (c .flat) (c .ends) (c .first) (c .count))
 
 -- Lengths, and elements past n, stay.
 pub record Stays (n : ℕ) (old new : Working) : Type 0 where
@@ -62,19 +55,6 @@ StageAs n l turns t (on st) =
 
 ----------------------------------------------------------------------
 -- A qubit settled
-
--- The qubit p of the open ones is settled: of the rows on it those that have no open qubit left are taken up.
-pub record TakenRows (n : ℕ) (c : RowLists) (p live : ℕ) (o : Qubits) (forms forms′ work′ : List ℕ) (t : Taken) : Type 0 where
-  pub taken : TakenAs n forms′ (takeUpAll (closedAt? false p (put p false o)) (rowChecks c) (withLive n forms live)) t
-  pub kept : (k : ℕ) → t ≡ Live k → Kept (put p false o) c work′
-
-pub record ClosedRows (n : ℕ) (c : RowLists) (p live : ℕ) (forms forms′ work work′ : List ℕ) (t : Taken) : Type 0 where
-  pub forms-long : length forms′ ≡ length forms
-  pub forms-rest : (q : ℕ) → n ≤ q → getD forms′ q 0 ≡ getD forms q 0
-  pub work-long : length work′ ≡ length work
-  pub below : (k : ℕ) → k < 8192 → getD work′ k 0 ≡ getD work k 0
-  pub past : (k : ℕ) → 9216 ≤ k → getD work′ k 0 ≡ getD work k 0
-  pub rows : GoodRows n c → (o : Qubits) → o p ≡ true → Kept o c work → RowsOn o c work → Topped n live forms → TakenRows n c p live o forms forms′ work′ t
 
 -- However many turns were made before.
 pub record Turns (n : ℕ) (c : RowLists) (live : ℕ) (next : State → Stage) (old new : Working) (t : Taken) : Type 0 where

@@ -4,16 +4,12 @@ ghost use Prim.Native.Nat.{_+_, _≤_};
 ghost use lib.ListN.{length};
 ghost use Rattle.turns.specs.Runs.{TurnedHalf, reportBy, RanHalf};
 use crate::Ended;
-use crate::closed;
-use crate::guesses;
-use crate::rows;
 use crate::turns;
 use code::Rows;
-use forms::Taken;
 use machine::HalfReport;
 use machine::Word;
 
-// What is kept of the rows, the closed ones taken up, then the turns.
+// The closed rows taken up, then the turns.
 fn turn_half(
     n: u16,
     flat: &[u16],
@@ -31,26 +27,23 @@ fn turn_half(
     ensures { λ r. ⌜ TurnedHalf n (record { flat = now (flat .entry); ends = now (ends .entry); lit = now (lit .entry); first = rows .first .0; count = rows .count }) budget limit (record { marks = now (marks .entry); forms = now (forms .entry); work = now (work .entry) }) (record { marks = now (marks .exit); forms = now (forms .exit); work = now (work .exit) }) r ⌝ }
 {
     let size = n as usize;
-    kept::fill(n, flat, ends, lit, rows, marks, work);
-    let taken = closed::take_up_closed(size, flat, ends, lit, rows, work, forms);
-    let Taken::Live(live) = taken else {
+    lists::clear_words(forms, 0, size);
+    if closing::lit_closed(lit, rows, work) {
         return Ended {
             word: Word::None,
             turns: 0,
             live: 0,
         };
-    };
-    guesses::count_rows(size, flat, ends, lit, rows, work);
-    let unsettled = rows::count_marks(size, marks, 4);
+    }
+    let unsettled = scans::count_marks(n, marks, 4);
     turns::run(
-        size,
+        n,
         flat,
         ends,
         lit,
         rows,
         budget as u16,
         limit,
-        live,
         unsettled,
         work,
         marks,
@@ -59,12 +52,12 @@ fn turn_half(
 }
 
 // The report of a half that ended so, with its marks.
-fn report(n: usize, ended: Ended, marks: &[u8]) -> HalfReport
-    requires { ⌜ (n ≤ length (now marks)) × (n ≤ 1024) ⌝ }
+fn report(n: u16, ended: Ended, marks: &[u8]) -> HalfReport
+    requires { ⌜ n ≤ length (now marks) ⌝ }
     ensures { λ r. ⌜ r ≡ reportBy n ended (now (marks .entry)) ⌝ }
 {
-    let fixed = rows::count_marks(n, marks, 1);
-    let guesses = rows::count_marks(n, marks, 3);
+    let fixed = scans::count_marks(n, marks, 1);
+    let guesses = scans::count_marks(n, marks, 3);
     let word = ended.word;
     HalfReport {
         word: word,
@@ -92,7 +85,6 @@ pub fn run_marked(
     requires { ⌜ budget ≤ 63 ⌝ }
     ensures { λ r. ⌜ RanHalf n (record { flat = now (flat .entry); ends = now (ends .entry); lit = now (lit .entry); first = rows .first .0; count = rows .count }) budget limit (record { marks = now (marks .entry); forms = now (forms .entry); work = now (work .entry) }) (record { marks = now (marks .exit); forms = now (forms .exit); work = now (work .exit) }) r ⌝ }
 {
-    let size = n as usize;
     let ended = turn_half(n, flat, ends, lit, rows, budget, limit, work, marks, forms);
-    report(size, ended, marks)
+    report(n, ended, marks)
 }

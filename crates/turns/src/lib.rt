@@ -3,13 +3,9 @@ ghost use mathlib.Core.Path.{_≡_};
 ghost use lib.ListN.{length};
 ghost use Rattle.turns.specs.Runs.{fits?, Runs};
 
-mod closed;
-mod guesses;
 mod half;
-mod rows;
 mod turns;
 
-use code::Qubit;
 use code::Rows;
 use forms::Taken;
 use machine::HalfReport;
@@ -19,12 +15,6 @@ use machine::Word;
 pub enum RunAnswer {
     Refused,
     Over(HalfReport),
-}
-
-// The qubit that the guess rule names.
-enum Choice {
-    NoQubit,
-    Named(Qubit),
 }
 
 // A turn, or that the budget is spent.
@@ -60,8 +50,8 @@ fn fits(
     long & (size <= marks.len()) & (size <= forms.len())
 }
 
-// From the marks of the start, the closed rows are taken up; then turns are made until a test before a turn ends the half, or a row that is
-// taken up. Marks and forms are left as the half ended, and the work list with what is kept of the rows.
+// From the marks of the start, and what is kept of the rows over them, the closed rows are taken up; then turns are made until a test before a turn ends
+// the half, or a row that is taken up. Marks and forms are left as the half ended, and the work list with what is kept of the rows.
 pub fn run_turns(
     n: u16,
     flat: &[u16],

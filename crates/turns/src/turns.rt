@@ -9,16 +9,13 @@ ghost use Rattle.machine.specs.Words;
 ghost use Rattle.machine.specs.Report.{marked};
 ghost use Rattle.machine.specs.Lists.{view};
 ghost use Rattle.turns.specs.Turns.{Turned, Settled, peelBy, guessBy, Moved, RunEnds};
-use crate::Choice;
 use crate::Ended;
 use crate::Move;
-use crate::closed;
-use crate::guesses;
-use crate::rows;
 use code::Qubit;
 use code::Row;
 use code::Rows;
 use forms::Taken;
+use guessing::Choice;
 use machine::Word;
 
 // The open qubit p gets a mark and a form; then the rows that this turn closed are taken up.
@@ -43,7 +40,7 @@ fn settle(
     let at = p.0 as usize;
     marks[at] = mark;
     forms[at] = form;
-    closed::close_rows(n, flat, ends, lit, rows, p, live, work, forms)
+    closing::close_rows(n, flat, ends, lit, rows, p, live, work, forms)
 }
 
 // The dangling row r gives its open qubit p the row's side.
@@ -120,7 +117,7 @@ fn guess(
 // One turn: the lowest dangling row gives its open qubit the row's side; if no row dangles, the open qubit on most rows becomes a new live
 // guess, unless the budget is spent. That a dangling row has no open qubit is tested for altered lists alone.
 fn make_turn(
-    n: usize,
+    n: u16,
     flat: &[u16],
     ends: &[u16],
     lit: &[u8],
@@ -135,18 +132,19 @@ fn make_turn(
     requires { ⌜ budget ≤ 63 ⌝ }
     ensures { λ m. ⌜ Moved n (record { flat = now (flat .entry); ends = now (ends .entry); lit = now (lit .entry); first = rows .first .0; count = rows .count }) budget live (record { marks = now (marks .entry); forms = now (forms .entry); work = now (work .entry) }) (record { marks = now (marks .exit); forms = now (forms .exit); work = now (work .exit) }) m ⌝ }
 {
+    let size = n as usize;
     let i = kept::lowest(rows.count, work);
     if i < rows.count {
         let first = rows.first;
         let r = first.0 + i;
         let row = code::row_at(flat, ends, Row(r));
-        let at = rows::first_open(n, row, marks);
+        let at = scans::first_open(size, row, marks);
         if row.len() <= at {
             return Move::Spent;
         }
         let p = row[at];
         return Move::Made(peel(
-            n,
+            size,
             flat,
             ends,
             lit,
@@ -162,10 +160,10 @@ fn make_turn(
     if budget <= live {
         return Move::Spent;
     }
-    let Choice::Named(p) = guesses::most_open(n, marks, work) else {
+    let Choice::Named(p) = guessing::most_open(n, marks, work) else {
         return Move::Spent;
     };
-    Move::Made(guess(n, flat, ends, lit, rows, p, live, work, marks, forms))
+    Move::Made(guess(size, flat, ends, lit, rows, p, live, work, marks, forms))
 }
 
 // A finished half is certain with no live guess, unsure otherwise.
@@ -188,14 +186,13 @@ fn finished(turns: u16, live: u16) -> Ended
 
 // Turns until a test before a turn ends the half, or a row that is taken up.
 pub fn run(
-    n: usize,
+    n: u16,
     flat: &[u16],
     ends: &[u16],
     lit: &[u8],
     rows: Rows,
     budget: u16,
     limit: u16,
-    begun: u16,
     unsettled: u16,
     work: &mut [u64],
     marks: &mut [u8],
@@ -203,9 +200,9 @@ pub fn run(
 ) -> Ended
     requires { ⌜ (n ≤ 1024) × (n ≤ length (now marks)) × (n ≤ length (now forms)) × (10240 ≤ length (now work)) × (rows .count ≤ 512) × (rows .first .0 + rows .count ≤ length (now lit)) × (rows .first .0 + rows .count ≤ 1024) ⌝ }
     requires { ⌜ (budget ≤ 63) × (unsettled ≡ marked n (view n (now marks)) 4) ⌝ }
-    ensures { λ r. ⌜ RunEnds n (record { flat = now (flat .entry); ends = now (ends .entry); lit = now (lit .entry); first = rows .first .0; count = rows .count }) budget limit begun (record { marks = now (marks .entry); forms = now (forms .entry); work = now (work .entry) }) (record { marks = now (marks .exit); forms = now (forms .exit); work = now (work .exit) }) r ⌝ }
+    ensures { λ r. ⌜ RunEnds n (record { flat = now (flat .entry); ends = now (ends .entry); lit = now (lit .entry); first = rows .first .0; count = rows .count }) budget limit 0 (record { marks = now (marks .entry); forms = now (forms .entry); work = now (work .entry) }) (record { marks = now (marks .exit); forms = now (forms .exit); work = now (work .exit) }) r ⌝ }
 {
-    let mut live = begun;
+    let mut live: u16 = 0;
     let mut turns: u16 = 0;
     let mut left = unsettled;
     while 0 < left {

@@ -1,5 +1,5 @@
 -- `turns::run_turns` meets its contract. Assumes nothing.
-use Rattle.kept.specs.Rows.{RowLists}
+use Rattle.scans.specs.Rows.{RowLists}
 use Rattle.turns.specs.Turns.{Working}
 use Rattle.turns.proofs.Marked.{fits-out, does-fit, runs-refused, runs-over}
 use borrow.Author.Needs.{needs}

@@ -14,7 +14,7 @@ count-marks-requires-2 c κs = search needs
 returns : tie.Need-returns
 returns c =
     let a = c .before .before .before in
-    report-is (a .args .n) (a .args .ended) (now (a .args .marks)) _ _ (c .before .count-marks .ensures) (c .count-marks2 .ensures)
+    report-is (a .args .n) (a .args .ended) (now (a .args .marks)) _ _ (a .pre) (c .before .count-marks .ensures) (c .count-marks2 .ensures)
 
 pub report-spec : {M : Type 1} → statement M
 report-spec = tie.close (tie.spec count-marks-requires count-marks-requires-2 returns)

@@ -1,83 +1,80 @@
 -- `turns::half::turn_half` meets its contract. Assumes nothing.
-use mathlib.Core.Path.{_∙_}
 use native.Mathlib.Omega.{arith}
-use Rattle.turns.specs.Turns.{Working}
-use Rattle.turns.proofs.Marked.{half-failed, half-goes, kept-fits}
+use Rattle.turns.proofs.Marked.{half-failed, half-goes, counted-as}
 use borrow.Author.Needs.{needs}
 use Rattle.turns.proofs.half.turn_half.Statement.{statement}
 use Rattle.turns.proofs.half.turn_half.Tie as tie
+use Rattle.turns.proofs.half.turn_half.Reads as reads
+use Rattle.turns.proofs.half.turn_half.Lts as lts
+use Rattle.closing.proofs.lit_closed.Reads as lit-closed-reads
+use Rattle.lists.proofs.clear_words.Reads as clear-words-reads
+use Rattle.scans.proofs.count_marks.Reads as count-marks-reads
+use Rattle.turns.proofs.turns.run.Reads as run-reads
 
-fill-requires : tie.Need-fill-requires
-fill-requires c κs = search needs
+-- src/half.rt:30:5
+clear-words-requires : tie.Need-clear-words-requires
+clear-words-requires c κs = search needs
 
-take-up-closed-requires : tie.Need-take-up-closed-requires
-take-up-closed-requires c κs = let p = c .before .before .before .before .before .before .before .before .before .before .before .before .before .pre .0 in (p .2, p .4, omega (arith, p .3, c .before .before .before .before .fill .ensures .long), p .5, p .6)
+-- src/half.rt:31:8
+lit-closed-requires : tie.Need-lit-closed-requires
+lit-closed-requires c κs = search needs
 
-enum-known-taken : tie.Need-enum-known-taken
-enum-known-taken c = search needs
-
-enum-told : tie.Need-enum-told
-enum-told c = search needs
-
+-- src/half.rt:32:9
 same-length : tie.Need-same-length
-same-length c = c .before .before .before .before .before .before .before .before .before .fill .ensures .long
+same-length c = search needs
 
+-- src/half.rt:32:9
 same-length-2 : tie.Need-same-length-2
 same-length-2 c = search needs
 
-same-length-3 : tie.Need-same-length-3
-same-length-3 c = c .before .before .before .before .take-up-closed .ensures .long
-
+-- src/half.rt:32:9
 returns : tie.Need-returns
 returns c =
-    let p = c .before .before .before .before .before .before .before .before .before .before .before .before .before .before .before .before .before .before .pre .0 in
-    let old : Working = record { marks = c .before .before .before .before .before .before .before .before .before .before .before .before .before .before .before .before .before .before .args .marks .now; forms = c .before .before .before .before .before .before .before .before .before .before .before .before .before .before .before .before .before .before .args .forms .now; work = c .before .before .before .before .before .before .before .before .before .before .before .before .before .before .before .before .before .before .args .work .now } in
-    half-failed _ _ _ _ old _ _ _ (p .0) (p .4) (kept-fits _ _ _ (p .0) (p .4) (p .6) (p .3) (p .5)) (c .before .before .before .before .before .before .before .before .before .fill .ensures) (c .before .before .before .before .take-up-closed .ensures) (c .enum-told .given .1)
+    let p = c .before .before .before .before .before .before .before .before .before .before .before .before .before .pre .0 in
+    half-failed _ (record { flat = c .before .before .before .before .before .before .before .before .before .before .before .before .before .args .flat .now; ends = c .before .before .before .before .before .before .before .before .before .before .before .before .before .args .ends .now; lit = c .before .before .before .before .before .before .before .before .before .before .before .before .before .args .lit .now; first = c .before .before .before .before .before .before .before .before .before .before .before .before .before .args .rows .first .0; count = c .before .before .before .before .before .before .before .before .before .before .before .before .before .args .rows .count }) _ _ (record { marks = c .before .before .before .before .before .before .before .before .before .before .before .before .before .args .marks .now; forms = c .before .before .before .before .before .before .before .before .before .before .before .before .before .args .forms .now; work = c .before .before .before .before .before .before .before .before .before .before .before .before .before .args .work .now }) _ _ (p .3) (p .4) (p .5) (c .before .before .before .before .before .clear-words .ensures) (c .before .lit-closed .ensures) (c .if1 .taken)
 
-count-rows-requires : tie.Need-count-rows-requires
-count-rows-requires c κs = let p = c .before .before .before .before .before .before .before .before .before .before .before .before .before .before .before .before .before .before .before .before .pre .0 in (p .0, omega (arith, p .3, c .before .before .before .before .before .before .before .before .before .before .before .fill .ensures .long), p .5, p .6)
-
+-- src/half.rt:38:9
 count-marks-requires : tie.Need-count-marks-requires
-count-marks-requires c κs = (c .before .before .before .before .before .before .before .before .before .before .before .before .before .before .before .before .before .before .before .before .before .before .before .before .pre .0 .1, c .before .before .before .before .before .before .before .before .before .before .before .before .before .before .before .before .before .before .before .before .before .before .before .before .pre .0 .0)
+count-marks-requires c κs = search needs
 
+-- src/half.rt:39:5
 run-requires : tie.Need-run-requires
 run-requires c κs =
-    let p = c .before .before .before .before .before .before .before .before .before .before .before .before .before .before .before .before .before .before .before .before .before .before .before .before .before .before .before .before .pre .0 in (
-      (p .0, p .1, omega (arith, p .2, c .before .before .before .before .before .before .before .before .before .before .before .before .before .before .take-up-closed .ensures .long), omega (arith, p .3, c .before .before .before .before .before .before .before .before .before .before .before .before .before .before .before .before .before .before .before .fill .ensures .long, c .before .before .before .before .before .before .before .count-rows .ensures .long), p .4, p .5, p .6),
-      (c .before .before .before .before .before .before .before .before .before .before .before .before .before .before .before .before .before .before .before .before .before .before .before .before .before .before .before .before .pre .1, c .before .before .before .count-marks .ensures),
+    let p = c .before .before .before .before .before .before .before .before .before .before .before .before .before .before .before .before .before .before .pre .0 in (
+      (p .0, p .1, omega (arith, p .2, c .before .before .before .before .before .before .before .before .before .before .clear-words .ensures .long), p .3, p .4, p .5, p .6),
+      (c .before .before .before .before .before .before .before .before .before .before .before .before .before .before .before .before .before .before .pre .1, counted-as _ (c .before .before .before .before .before .before .before .before .before .before .before .before .before .before .before .before .before .before .args .marks .now) 4 _ (p .1) (c .before .before .before .count-marks .ensures)),
     )
 
+-- src/half.rt:13:1
+same-length-3 : tie.Need-same-length-3
+same-length-3 c = search needs
+
+-- src/half.rt:13:1
 same-length-4 : tie.Need-same-length-4
-same-length-4 c = c .before .before .before .before .before .before .run .ensures .stays .work-long ∙ c .before .before .before .before .before .before .before .before .before .before .before .before .before .before .count-rows .ensures .long ∙ c .before .before .before .before .before .before .before .before .before .before .before .before .before .before .before .before .before .before .before .before .before .before .before .before .before .before .fill .ensures .long
+same-length-4 c = search needs
 
+-- src/half.rt:13:1
 same-length-5 : tie.Need-same-length-5
-same-length-5 c = c .before .before .before .before .before .before .run .ensures .stays .marks-long
+same-length-5 c = search needs
 
-same-length-6 : tie.Need-same-length-6
-same-length-6 c = c .before .before .before .before .before .before .run .ensures .stays .forms-long ∙ c .before .before .before .before .before .before .before .before .before .before .before .before .before .before .before .before .before .before .before .before .before .take-up-closed .ensures .long
-
+-- src/half.rt:13:1
 returns-2 : tie.Need-returns-2
 returns-2 c =
-    let p = c .before .before .before .before .before .before .before .before .before .before .before .before .before .before .before .before .before .before .before .before .before .before .before .before .before .before .before .before .before .before .before .before .before .before .before .pre .0 in
-    let old : Working = record { marks = c .before .before .before .before .before .before .before .before .before .before .before .before .before .before .before .before .before .before .before .before .before .before .before .before .before .before .before .before .before .before .before .before .before .before .before .args .marks .now; forms = c .before .before .before .before .before .before .before .before .before .before .before .before .before .before .before .before .before .before .before .before .before .before .before .before .before .before .before .before .before .before .before .before .before .before .before .args .forms .now; work = c .before .before .before .before .before .before .before .before .before .before .before .before .before .before .before .before .before .before .before .before .before .before .before .before .before .before .before .before .before .before .before .before .before .before .before .args .work .now } in
-    half-goes _ _ _ _ old _ _ _ (p .0) (p .4) (kept-fits _ _ _ (p .0) (p .4) (p .6) (p .3) (p .5)) (c .before .before .before .before .before .before .before .before .before .before .before .before .before .before .before .before .before .before .before .before .before .before .before .before .before .before .fill .ensures) (c .before .before .before .before .before .before .before .before .before .before .before .before .before .before .before .before .before .before .before .before .before .take-up-closed .ensures) _ (c .before .before .before .before .before .before .before .before .before .before .before .before .before .before .before .before .before .taken .given .1) _ (c .before .before .before .before .before .before .before .before .before .before .before .before .before .before .count-rows .ensures) _ _ (c .before .before .before .before .before .before .run .ensures)
+    let p = c .before .before .before .before .before .before .before .before .before .before .before .before .before .before .before .before .before .before .before .before .before .before .before .before .before .pre .0 in
+    half-goes _ (record { flat = c .before .before .before .before .before .before .before .before .before .before .before .before .before .before .before .before .before .before .before .before .before .before .before .before .before .args .flat .now; ends = c .before .before .before .before .before .before .before .before .before .before .before .before .before .before .before .before .before .before .before .before .before .before .before .before .before .args .ends .now; lit = c .before .before .before .before .before .before .before .before .before .before .before .before .before .before .before .before .before .before .before .before .before .before .before .before .before .args .lit .now; first = c .before .before .before .before .before .before .before .before .before .before .before .before .before .before .before .before .before .before .before .before .before .before .before .before .before .args .rows .first .0; count = c .before .before .before .before .before .before .before .before .before .before .before .before .before .before .before .before .before .before .before .before .before .before .before .before .before .args .rows .count }) _ _ (record { marks = c .before .before .before .before .before .before .before .before .before .before .before .before .before .before .before .before .before .before .before .before .before .before .before .before .before .args .marks .now; forms = c .before .before .before .before .before .before .before .before .before .before .before .before .before .before .before .before .before .before .before .before .before .before .before .before .before .args .forms .now; work = c .before .before .before .before .before .before .before .before .before .before .before .before .before .before .before .before .before .before .before .before .before .before .before .before .before .args .work .now }) _ _ (p .3) (p .4) (p .5) (c .before .before .before .before .before .before .before .before .before .before .before .before .before .before .before .before .before .clear-words .ensures) (c .before .before .before .before .before .before .before .before .before .before .before .before .before .lit-closed .ensures) (c .before .before .before .before .before .before .before .before .before .before .before .before .if1 .left) _ _ (c .before .before .before .before .before .before .run .ensures)
 
 pub turn-half-spec : {M : Type 1} → statement M
 turn-half-spec =
     tie.close
     (tie.spec
-    fill-requires
-    take-up-closed-requires
-    enum-known-taken
-    enum-told
+    clear-words-requires
+    lit-closed-requires
     same-length
     same-length-2
-    same-length-3
     returns
-    count-rows-requires
     count-marks-requires
     run-requires
+    same-length-3
     same-length-4
     same-length-5
-    same-length-6
     returns-2)

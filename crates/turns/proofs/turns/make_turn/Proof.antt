@@ -1,7 +1,8 @@
 -- `turns::turns::make_turn` meets its contract. Assumes nothing.
 use mathlib.Core.Path.{refl}
 use native.Mathlib.Omega.{arith}
-use Rattle.kept.proofs.KeptRows.{open-below}
+use Rattle.scans.proofs.Scanning.{open-below}
+use Rattle.guessing.proofs.Room.{named-as}
 use Rattle.turns.specs.Turns.{Working}
 use Rattle.turns.proofs.Moves.{choice-open, moved-shut, moved-peel, moved-spent, moved-unnamed, moved-guess}
 use borrow.Author.Needs.{needs}
@@ -65,7 +66,7 @@ returns-3 c =
     moved-spent _ _ _ _ old old _ (c .before .before .before .lowest .ensures) (omega (arith, c .before .before .before .before .before .before .before .before .before .before .before .pre .0 .3)) (omega (arith, c .before .if1 .left)) (c .if3 .taken)
 
 most-open-requires : tie.Need-most-open-requires
-most-open-requires c κs = (c .before .before .before .before .before .before .before .before .before .before .before .before .before .pre .0 .0, c .before .before .before .before .before .before .before .before .before .before .before .before .before .pre .0 .1, c .before .before .before .before .before .before .before .before .before .before .before .before .before .pre .0 .3)
+most-open-requires c κs = search needs
 
 enum-known-p : tie.Need-enum-known-p
 enum-known-p c = search needs
@@ -82,11 +83,11 @@ same-length-8 c = search needs
 returns-4 : tie.Need-returns-4
 returns-4 c =
     let old : Working = (record { marks = c .before .before .before .before .before .before .before .before .before .before .before .before .before .before .before .before .args .marks .now; forms = c .before .before .before .before .before .before .before .before .before .before .before .before .before .before .before .before .args .forms .now; work = c .before .before .before .before .before .before .before .before .before .before .before .before .before .before .before .before .args .work .now }) in
-    moved-unnamed _ _ _ _ old old _ (c .before .before .before .before .before .before .before .before .lowest .ensures) (omega (arith, c .before .before .before .before .before .before .before .before .before .before .before .before .before .before .before .before .pre .0 .3)) (omega (arith, c .before .before .before .before .before .before .if1 .left)) _ (c .before .before .most-open .ensures) (c .enum-told .given .1)
+    moved-unnamed _ _ _ _ old old _ (c .before .before .before .before .before .before .before .before .lowest .ensures) (omega (arith, c .before .before .before .before .before .before .before .before .before .before .before .before .before .before .before .before .pre .0 .3)) (omega (arith, c .before .before .before .before .before .before .if1 .left)) _ (named-as _ (c .before .before .before .before .before .before .before .before .before .before .before .before .before .before .before .before .args .marks .now) (c .before .before .before .before .before .before .before .before .before .before .before .before .before .before .before .before .args .work .now) _ (c .before .before .before .before .before .before .before .before .before .before .before .before .before .before .before .before .pre .0 .0) (c .before .before .before .before .before .before .before .before .before .before .before .before .before .before .before .before .pre .0 .1) (c .before .before .before .before .before .before .before .before .before .before .before .before .before .before .before .before .pre .0 .3) (c .before .before .most-open .ensures)) (c .enum-told .given .1)
 
 guess-requires : tie.Need-guess-requires
 guess-requires c κs =
-    let is-open = choice-open _ (c .before .before .before .before .before .before .before .before .before .before .before .before .before .before .before .before .before .before .before .before .args .work .now) (c .before .before .before .before .before .before .before .before .before .before .before .before .before .before .before .before .before .before .before .before .args .marks .now) _ _ (c .before .before .before .before .before .before .most-open .ensures) (c .before .before .before .before .p .given .1) in
+    let is-open = choice-open _ (c .before .before .before .before .before .before .before .before .before .before .before .before .before .before .before .before .before .before .before .before .args .work .now) (c .before .before .before .before .before .before .before .before .before .before .before .before .before .before .before .before .before .before .before .before .args .marks .now) _ _ (named-as _ (c .before .before .before .before .before .before .before .before .before .before .before .before .before .before .before .before .before .before .before .before .args .marks .now) (c .before .before .before .before .before .before .before .before .before .before .before .before .before .before .before .before .before .before .before .before .args .work .now) _ (c .before .before .before .before .before .before .before .before .before .before .before .before .before .before .before .before .before .before .before .before .pre .0 .0) (c .before .before .before .before .before .before .before .before .before .before .before .before .before .before .before .before .before .before .before .before .pre .0 .1) (c .before .before .before .before .before .before .before .before .before .before .before .before .before .before .before .before .before .before .before .before .pre .0 .3) (c .before .before .before .before .before .before .most-open .ensures)) (c .before .before .before .before .p .given .1) in
     (c .before .before .before .before .before .before .before .before .before .before .before .before .before .before .before .before .before .before .before .before .pre .0, (open-below _ (c .before .before .before .before .before .before .before .before .before .before .before .before .before .before .before .before .before .before .before .before .args .marks .now) _ is-open, is-open, omega (arith, c .before .before .before .before .before .before .before .before .before .if3 .left, c .before .before .before .before .before .before .before .before .before .before .before .before .before .before .before .before .before .before .before .before .pre .1)))
 
 same-length-9 : tie.Need-same-length-9
@@ -101,7 +102,7 @@ same-length-11 c = c .before .before .before .before .before .before .guess .ens
 returns-5 : tie.Need-returns-5
 returns-5 c =
     let old : Working = (record { marks = c .before .before .before .before .before .before .before .before .before .before .before .before .before .before .before .before .before .before .before .before .before .before .before .before .before .before .before .args .marks .now; forms = c .before .before .before .before .before .before .before .before .before .before .before .before .before .before .before .before .before .before .before .before .before .before .before .before .before .before .before .args .forms .now; work = c .before .before .before .before .before .before .before .before .before .before .before .before .before .before .before .before .before .before .before .before .before .before .before .before .before .before .before .args .work .now }) in
-    moved-guess _ _ _ _ old _ _ (c .before .before .before .before .before .before .before .before .before .before .before .before .before .before .before .before .before .before .before .lowest .ensures) (omega (arith, c .before .before .before .before .before .before .before .before .before .before .before .before .before .before .before .before .before .before .before .before .before .before .before .before .before .before .before .pre .0 .3)) (omega (arith, c .before .before .before .before .before .before .before .before .before .before .before .before .before .before .before .before .before .if1 .left)) _ (c .before .before .before .before .before .before .before .before .before .before .before .before .before .most-open .ensures) _ (c .before .before .before .before .before .before .before .before .before .before .before .p .given .1) (omega (arith, c .before .before .before .before .before .before .before .before .before .before .before .before .before .before .before .before .if3 .left)) _ (c .before .before .before .before .before .before .guess .ensures)
+    moved-guess _ _ _ _ old _ _ (c .before .before .before .before .before .before .before .before .before .before .before .before .before .before .before .before .before .before .before .lowest .ensures) (omega (arith, c .before .before .before .before .before .before .before .before .before .before .before .before .before .before .before .before .before .before .before .before .before .before .before .before .before .before .before .pre .0 .3)) (omega (arith, c .before .before .before .before .before .before .before .before .before .before .before .before .before .before .before .before .before .if1 .left)) _ (named-as _ (c .before .before .before .before .before .before .before .before .before .before .before .before .before .before .before .before .before .before .before .before .before .before .before .before .before .before .before .args .marks .now) (c .before .before .before .before .before .before .before .before .before .before .before .before .before .before .before .before .before .before .before .before .before .before .before .before .before .before .before .args .work .now) _ (c .before .before .before .before .before .before .before .before .before .before .before .before .before .before .before .before .before .before .before .before .before .before .before .before .before .before .before .pre .0 .0) (c .before .before .before .before .before .before .before .before .before .before .before .before .before .before .before .before .before .before .before .before .before .before .before .before .before .before .before .pre .0 .1) (c .before .before .before .before .before .before .before .before .before .before .before .before .before .before .before .before .before .before .before .before .before .before .before .before .before .before .before .pre .0 .3) (c .before .before .before .before .before .before .before .before .before .before .before .before .before .most-open .ensures)) _ (c .before .before .before .before .before .before .before .before .before .before .before .p .given .1) (omega (arith, c .before .before .before .before .before .before .before .before .before .before .before .before .before .before .before .before .if3 .left)) _ (c .before .before .before .before .before .before .guess .ensures)
 
 pub make-turn-spec : {M : Type 1} → statement M
 make-turn-spec =

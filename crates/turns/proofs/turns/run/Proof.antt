@@ -7,12 +7,12 @@ use Rattle.turns.proofs.turns.run.Statement.{statement}
 use Rattle.turns.proofs.turns.run.Tie as tie
 
 abbrev Inv-loop : tie.InvT-loop
-Inv-loop n flat ends lit rows budget limit begun unsettled work₀ marks₀ forms₀ live₀ turns₀ left₀ work marks forms live turns left =
-    Goes n (record { flat = flat; ends = ends; lit = lit; first = rows .first .0; count = rows .count }) budget limit (record { marks = marks₀; forms = forms₀; work = work₀ }) begun
+Inv-loop n flat ends lit rows budget limit unsettled work₀ marks₀ forms₀ live₀ turns₀ left₀ work marks forms live turns left =
+    Goes n (record { flat = flat; ends = ends; lit = lit; first = rows .first .0; count = rows .count }) budget limit (record { marks = marks₀; forms = forms₀; work = work₀ }) 0
     (record { marks = marks; forms = forms; work = work }) live turns left
 
 abbrev μ-loop : tie.MeasureT-loop
-μ-loop n flat ends lit rows budget limit begun unsettled work₀ marks₀ forms₀ live₀ turns₀ left₀ work marks forms live turns left = left
+μ-loop n flat ends lit rows budget limit unsettled work₀ marks₀ forms₀ live₀ turns₀ left₀ work marks forms live turns left = left
 
 loop-holds : tie.Need-loop-holds Inv-loop μ-loop
 loop-holds c = goes-start _ _ _ _ _ _ _ (c .before .before .before .before .before .before .pre .1 .1)

@@ -2,6 +2,7 @@
 use mathlib.Core.Path.{_∙_}
 use native.Mathlib.Omega.{arith}
 use lib.ListN.{length-set}
+use Rattle.closing.proofs.ClosingRows.{closed-as}
 use Rattle.turns.proofs.Turning.{settled}
 use borrow.Author.Needs.{needs}
 use Rattle.turns.proofs.turns.settle.Statement.{statement}
@@ -20,7 +21,7 @@ slice-write-forms : tie.Need-slice-write-forms
 slice-write-forms c = search needs
 
 close-rows-requires : tie.Need-close-rows-requires
-close-rows-requires c κs = (rw length-set (c .before .before .before .before .before .before .before .before .before .pre .0 .2), omega (arith, c .before .before .before .before .before .before .before .before .before .pre .1 .0, c .before .before .before .before .before .before .before .before .before .pre .0 .0), c .before .before .before .before .before .before .before .before .before .pre .0 .4, c .before .before .before .before .before .before .before .before .before .pre .0 .3, c .before .before .before .before .before .before .before .before .before .pre .0 .5, c .before .before .before .before .before .before .before .before .before .pre .0 .6)
+close-rows-requires c κs = search needs
 
 same-length : tie.Need-same-length
 same-length c = search needs
@@ -29,13 +30,13 @@ same-length-2 : tie.Need-same-length-2
 same-length-2 c = search needs
 
 same-length-3 : tie.Need-same-length-3
-same-length-3 c = c .before .before .before .before .close-rows .ensures .forms-long ∙ length-set (c .before .before .before .before .before .before .before .before .before .before .before .before .before .before .args .forms .now) _ _
+same-length-3 c = (closed-as _ _ _ _ _ _ _ _ _ (record { forms-long = rw length-set (c .before .before .before .before .before .before .before .before .before .before .before .before .before .before .pre .0 .2); small = omega (arith, c .before .before .before .before .before .before .before .before .before .before .before .before .before .before .pre .1 .0, c .before .before .before .before .before .before .before .before .before .before .before .before .before .before .pre .0 .0); few = c .before .before .before .before .before .before .before .before .before .before .before .before .before .before .pre .0 .4; work-long = c .before .before .before .before .before .before .before .before .before .before .before .before .before .before .pre .0 .3; lit = c .before .before .before .before .before .before .before .before .before .before .before .before .before .before .pre .0 .5; last = c .before .before .before .before .before .before .before .before .before .before .before .before .before .before .pre .0 .6 }) (c .before .before .before .before .close-rows .ensures)) .forms-long ∙ length-set (c .before .before .before .before .before .before .before .before .before .before .before .before .before .before .args .forms .now) _ _
 
 returns : tie.Need-returns
 returns c =
     let start = c .before .before .before .before .before .before .before .before .before .before .before .before .before .before in
     settled _ _ (record { marks = start .args .marks .now; forms = start .args .forms .now; work = start .args .work .now }) _ _ _ _ _ _ (start .pre .0 .0) (start .pre .0 .4) (start .pre .1 .0)
-    (omega (arith, start .pre .1 .0, start .pre .0 .1)) (omega (arith, start .pre .1 .0, start .pre .0 .2)) (start .pre .1 .1) (start .pre .1 .2) _ (c .before .before .before .before .close-rows .ensures)
+    (omega (arith, start .pre .1 .0, start .pre .0 .1)) (omega (arith, start .pre .1 .0, start .pre .0 .2)) (start .pre .1 .1) (start .pre .1 .2) _ (closed-as _ _ _ _ _ _ _ _ _ (record { forms-long = rw length-set (c .before .before .before .before .before .before .before .before .before .before .before .before .before .before .pre .0 .2); small = omega (arith, c .before .before .before .before .before .before .before .before .before .before .before .before .before .before .pre .1 .0, c .before .before .before .before .before .before .before .before .before .before .before .before .before .before .pre .0 .0); few = c .before .before .before .before .before .before .before .before .before .before .before .before .before .before .pre .0 .4; work-long = c .before .before .before .before .before .before .before .before .before .before .before .before .before .before .pre .0 .3; lit = c .before .before .before .before .before .before .before .before .before .before .before .before .before .before .pre .0 .5; last = c .before .before .before .before .before .before .before .before .before .before .before .before .before .before .pre .0 .6 }) (c .before .before .before .before .close-rows .ensures))
 
 pub settle-spec : {M : Type 1} → statement M
 settle-spec =

@@ -1,0 +1,2 @@
+pub mod TakingRows
+pub mod ClosingRows
