@@ -6,7 +6,7 @@ use Prim.Native.Nat.{ℕ, _+_, _≤_}
 use lib.Dec.{leb}
 use lib.ListN.{length}
 use borrow.Author.Tests.{leb-true, le-leb}
-use Rattle.binary.proofs.Bits.{never, and-out}
+use Rattle.binary.proofs.Bits.{bit, never, and-out}
 use Rattle.machine.specs.Machine.{isOpen, most}
 use Rattle.machine.specs.Lists.{view}
 use Rattle.guessing.specs.declared.Choice.{Choice}
@@ -27,6 +27,10 @@ module _ (n : ℕ) (flat ends lit : List ℕ) (first count : ℕ) (work : List �
 
   pub counts-not : told ≡ false → (work′ : List ℕ) → work′ ≡ work → Counts n flat ends lit first count work work′
   counts-not f work′ e = record { refused = λ u. e; counts = λ t. never t (sym tells ∙ f) }
+
+pub counts-long : (n : ℕ) (flat ends lit : List ℕ) (first count : ℕ) (work work′ : List ℕ) → Counts n flat ends lit first count work work′ → length work′ ≡ length work
+counts-long n flat ends lit first count work work′ v =
+    bit (countable? n first count (length lit) (length work)) (λ t. v .counts t .long) (λ f. ap length (v .refused f))
 
 module _ (n : ℕ) (marks work : List ℕ) (told : Bool) (tells : told ≡ namable? n (length marks) (length work)) where
   pub name-room : told ≡ true → (n ≤ 1024) × (n ≤ length marks) × (10240 ≤ length work)

@@ -3,54 +3,12 @@ ghost use mathlib.Core.Path.{_≡_};
 ghost use Prim.Native.Nat.{_+_, _≤_};
 ghost use lib.ListN.{length};
 ghost use Rattle.machine.specs.Report.{none?};
-ghost use Rattle.halves.specs.Starts.{PackedFrom, Started, Finished, fits?, HalfDone};
+ghost use Rattle.halves.specs.Starts.{Finished, fits?, HalfDone};
 use crate::fills;
-use code::Row;
 use code::Rows;
 use machine::HalfReport;
 use machine::Word;
 use turns::RunAnswer;
-
-// A number as an index.
-fn index(x: u16) -> usize
-    ensures { λ r. ⌜ r ≡ x ⌝ }
-{
-    x as usize
-}
-
-// Packs the rows into the work list, from its start.
-fn pack_rows(n: u16, flat: &[u16], ends: &[u16], rows: Rows, work: &mut [u64])
-    requires { ⌜ (n ≤ 1024) × (rows .count ≤ 512) × (rows .first .0 ≤ 512) × (8192 ≤ length (now work)) ⌝ }
-    ensures { λ _. ⌜ PackedFrom n (now (flat .entry)) (now (ends .entry)) (rows .first .0) (rows .count) (now (work .entry)) (now (work .exit)) ⌝ }
-{
-    let words = packing::words_for(n);
-    let first = rows.first;
-    let count = rows.count;
-    let mut i: u16 = 0;
-    while i < count {
-        let row = code::row_at(flat, ends, Row(first.0 + i));
-        packing::put_row(work, words, index(i), row);
-        i += 1;
-    }
-}
-
-// The marks of the start: fixed qubits are settled, all other lost ones open.
-fn start(
-    n: u16,
-    flat: &[u16],
-    ends: &[u16],
-    lost: &[u8],
-    others: Rows,
-    work: &mut [u64],
-    marks: &mut [u8],
-)
-    requires { ⌜ (n ≤ 1024) × (others .count ≤ 512) × (others .first .0 ≤ 512) × (8192 ≤ length (now work)) × (n ≤ length (now lost)) × (n ≤ length (now marks)) ⌝ }
-    ensures { λ _. ⌜ (length (now (work .exit)) ≡ length (now (work .entry))) × Started n (now (flat .entry)) (now (ends .entry)) (now (lost .entry)) (others .first .0) (others .count) (now (marks .entry)) (now (marks .exit)) ⌝ }
-{
-    fills::start_marks(n as usize, lost, marks);
-    pack_rows(n, flat, ends, others, work);
-    search::mark_fixed(n, others.count as usize, lost, work, marks);
-}
 
 // Whether the half ended in none.
 fn is_none(word: Word) -> bool
@@ -141,7 +99,7 @@ pub fn decode(
     requires { ⌜ (n ≤ length (now lost)) × (own .first .0 + own .count ≤ length (now lit)) × (n ≤ length (now marks)) × (n ≤ length (now forms)) × (n ≤ length (now correction)) ⌝ }
     ensures { λ r. ⌜ (length (now (work .exit)) ≡ length (now (work .entry))) × HalfDone n (record { flat = now (flat .entry); ends = now (ends .entry); lit = now (lit .entry); first = own .first .0; count = own .count }) (now (lost .entry)) (others .first .0) (others .count) budget limit (now (work .exit)) (record { marks = now (marks .entry); forms = now (forms .entry); correction = now (correction .entry) }) (record { marks = now (marks .exit); forms = now (forms .exit); correction = now (correction .exit) }) r ⌝ }
 {
-    start(n, flat, ends, lost, others, work, marks);
+    starting::start(n, flat, ends, lost, lit, own, others, work, marks);
     let ran = turns::run_turns(n, flat, ends, lit, own, budget, limit, work, marks, forms);
     let RunAnswer::Over(told) = ran else {
         return nothing();

@@ -2,20 +2,7 @@
 ghost use mathlib.Core.Path.{_≡_};
 ghost use Prim.Native.Nat.{_%_, _≤_};
 ghost use lib.ListN.{getD};
-ghost use Rattle.halves.specs.Fills.{Filled, openMark};
-
-// Each lost qubit is marked open, each other one not lost.
-pub fn start_marks(n: usize, lost: &[u8], marks: &mut [u8])
-    requires { do ⌜ n ≤ (← ⟦lost.len()⟧) ⌝ }
-    requires { do ⌜ n ≤ (← ⟦marks.len()⟧) ⌝ }
-    ensures { λ _. ⌜ Filled (openMark n (now (lost .entry))) n (now (marks .entry)) (now (marks .exit)) ⌝ }
-{
-    let mut q: usize = 0;
-    while q < n {
-        marks[q] = if lost[q] == 1 { 4 } else { 0 };
-        q += 1;
-    }
-}
+ghost use Rattle.starting.specs.Fills.{Filled};
 
 // A qubit's flip with all live guesses 0: the constant of its form.
 fn constant_of(form: u64) -> u8

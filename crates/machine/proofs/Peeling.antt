@@ -8,12 +8,12 @@ use native.Mathlib.Nat.{zero-add}
 use native.Mathlib.Omega.{arith}
 use lib.Dec.{eqb}
 use Rattle.binary.specs.Bits.{_⊕_, below}
-use Rattle.binary.specs.Meaning.{Qubits, Row, Check, All, odd, Inside, product, Fixed, fixed?}
+use Rattle.binary.specs.Meaning.{Qubits, Row, Check, Below, All, odd, Inside, product, Fixed, fixed?}
 use Rattle.binary.specs.Classes.{Commuting}
 use Rattle.binary.proofs.Bits.{⊕-false, bit, never, below-out, below-in, not-out, not-in, eq-eqb, eqb-eq}
 use Rattle.binary.proofs.Rows.{all-out, odd-product}
 use Rattle.binary.proofs.Tests.{fixed-out}
-use Rattle.machine.specs.Machine.{Forms, State, Stage, on, failed, End, put, isOpen, dangling, closing, takeUpAll, stage, side, peel, turnBy, turn, noneOpen, onward, run, checks}
+use Rattle.machine.specs.Machine.{Forms, State, Stage, on, failed, End, put, isOpen, dangling, closed?, closing, takeUpAll, stage, blank, startMark, start, side, peel, turnBy, turn, noneOpen, onward, run, checks}
 use Rattle.machine.specs.Peeling.{peelStep, peeled, peelsAway, PeelLaw}
 use Rattle.machine.proofs.Runs.{before-cases}
 use Rattle.machine.proofs.Settling.{odd-open, shut-less}
@@ -52,16 +52,21 @@ silent others c e same [] v = tt
 silent others c e same (k ∷ cs) v =
     (ap (λ (f : Qubits). odd f (k .row)) (fun-ext same) ∙ odd-product others (k .row) (v .0) c, silent others c e same cs (v .1))
 
-pub peel-law : PeelLaw
-unfolding PeelLaw peelsAway
-peel-law h obeys away q = bit (fixed? (h .size) (h .others) (h .lost) q) (λ t. go (fixed-out (h .size) (h .others) (h .lost) (obeys .others-below) q t)) (λ t. t)
+pub unfixed : (n : ℕ) (others : List Row) (lost : Qubits) (cs : List Check) → Below n others → ((q : ℕ) → lost q ≡ true → q < n) → Commuting others cs
+    → peelsAway cs n lost ≡ true → (q : ℕ) → fixed? n others lost q ≡ false
+unfolding peelsAway
+unfixed n others lost cs others-below lost-below even away q = bit (fixed? n others lost q) (λ t. go (fixed-out n others lost others-below q t)) (λ t. t)
   where
-    go : Fixed (h .others) (h .lost) q → fixed? (h .size) (h .others) (h .lost) q ≡ false
+    go : Fixed others lost q → fixed? n others lost q ≡ false
     go f =
-        let s : Qubits = f .0 in
-        let quiet = silent (h .others) (f .1 .0) s (f .1 .1) (checks h) (commuting (h .others) 0 (h .lit) (h .unread) (h .rows) (obeys .commute)) in
-        let inside = peeled-inside (checks h) (h .size) (h .lost) s (f .2) quiet q (f .3 .0) in
-        never inside (not-out (peeled (checks h) (h .size) (h .lost) q) (below-out (h .size) _ away q (obeys .lost-below q (f .2 q (f .3 .0)))))
+        let inside = peeled-inside cs n lost (f .0) (f .2) (silent others (f .1 .0) (f .0) (f .1 .1) cs even) q (f .3 .0) in
+        never inside (not-out (peeled cs n lost q) (below-out n _ away q (lost-below q (f .2 q (f .3 .0)))))
+
+pub peel-law : PeelLaw
+unfolding PeelLaw
+peel-law h obeys away =
+    unfixed (h .size) (h .others) (h .lost) (checks h) (obeys .others-below) (obeys .lost-below)
+    (commuting (h .others) 0 (h .lit) (h .unread) (h .rows) (obeys .commute)) away
 
 ----------------------------------------------------------------------
 -- Steps after steps
@@ -94,7 +99,7 @@ abbrev pub Away : List Check → ℕ → ℕ → Qubits → Type 0
 Away cs n k o = (q : ℕ) → q < n → peeled cs k o q ≡ false
 
 module _ (cs : List Check) (n : ℕ) (choose choose′ : Qubits → Option ℕ) (budget limit : ℕ) where
-  abbrev AwayAt : ℕ → Stage → Type 0
+  abbrev pub AwayAt : ℕ → Stage → Type 0
   AwayAt k (on st) = Away cs n k (isOpen (st .mark))
   AwayAt k (failed st) = Unit {0}
 
@@ -131,3 +136,21 @@ module _ (cs : List Check) (n : ℕ) (choose choose′ : Qubits → Option ℕ) 
       (λ b. onward cs n choose b st (run cs n choose budget limit m) (turn cs n choose st) ≡ onward cs n choose′ b st (run cs n choose′ budget limit m) (turn cs n choose′ st))
       (λ w e s. refl)
       (λ u. let z = steps st k a (u .some-open) in rule-unasked m (turn cs n choose st) (z .1 .0) (z .1 .1) ∙ ap (run cs n choose′ budget limit m) (z .0))
+
+-- From the start of a half without a fixed qubit.
+pub unasked : (cs : List Check) (n : ℕ) (lost fixed : Qubits) → ((q : ℕ) → fixed q ≡ false) → peelsAway cs n lost ≡ true
+    → (choose choose′ : Qubits → Option ℕ) (budget limit m : ℕ) → run cs n choose budget limit m (start cs lost fixed) ≡ run cs n choose′ budget limit m (start cs lost fixed)
+unfolding peelsAway start
+unasked cs n lost fixed none-fixed away choose choose′ budget limit m =
+    rule-unasked cs n choose choose′ budget limit m (start cs lost fixed) n (at (takeUpAll (closed? (isOpen (startMark lost fixed))) cs blank))
+  where
+    marks : (b f : Bool) → f ≡ false → eqb (cond b (cond f 1 4) 0) 4 ≡ b
+    marks true f e = rw e
+    marks false f e = refl
+
+    opened : isOpen (startMark lost fixed) ≡ lost
+    opened = fun-ext (λ q. marks (lost q) (fixed q) (none-fixed q))
+
+    at : (r : Option Forms) → AwayAt cs n choose choose′ budget limit n (stage (startMark lost fixed) 0 r)
+    at none = tt
+    at (some fs) = λ q l. ap (λ (o : Qubits). peeled cs n o q) opened ∙ not-out (peeled cs n lost q) (below-out n _ away q l)

@@ -1,13 +1,13 @@
--- `halves::fills::start_marks` meets its contract: the first q qubits are marked. Assumes nothing.
+-- `starting::start_marks` meets its contract: the first q qubits are marked. Assumes nothing.
 use mathlib.Core.Path.{_∙_}
 use mathlib.Core.Logic.{⊎-elim}
 use Prim.Native.Nat.{_-_, _≤_}
 use denote.Ref.{now}
 use borrow.Author.Needs.{needs}
-use Rattle.halves.specs.Fills.{Filled, openMark}
-use Rattle.halves.proofs.ListFills.{fill-none, fill-turn, fill-end, lost-open, kept-unmarked}
-use Rattle.halves.proofs.fills.start_marks.Statement.{statement}
-use Rattle.halves.proofs.fills.start_marks.Tie as tie
+use Rattle.starting.specs.Fills.{Filled, openMark}
+use Rattle.starting.proofs.ListFills.{fill-none, fill-turn, fill-end, lost-open, kept-unmarked}
+use Rattle.starting.proofs.start_marks.Statement.{statement}
+use Rattle.starting.proofs.start_marks.Tie as tie
 
 abbrev Inv-loop : tie.InvT-loop
 Inv-loop n lost marks₀ q₀ marks q = (q ≤ n) × Filled (openMark n lost) q marks₀ marks

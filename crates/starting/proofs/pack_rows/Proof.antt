@@ -1,4 +1,4 @@
--- `halves::decode::pack_rows` meets its contract. Assumes nothing.
+-- `starting::pack_rows` meets its contract. Assumes nothing.
 use mathlib.Core.Path.{_∙_}
 use Prim.Native.Nat.{_-_, _≤_}
 use native.Mathlib.Omega.{arith}
@@ -8,9 +8,9 @@ use mathlib.Core.Path.{_≡_}
 use Rattle.packing.specs.Packed.{wordsFor, Packed}
 use Rattle.packing.proofs.Put.{packed-none}
 use Rattle.code.specs.Lists.{rowsFrom}
-use Rattle.halves.proofs.Starting.{pack-more, pack-end}
-use Rattle.halves.proofs.decode.pack_rows.Statement.{statement}
-use Rattle.halves.proofs.decode.pack_rows.Tie as tie
+use Rattle.starting.proofs.Packing.{pack-more, pack-end}
+use Rattle.starting.proofs.pack_rows.Statement.{statement}
+use Rattle.starting.proofs.pack_rows.Tie as tie
 
 abbrev Inv-loop : tie.InvT-loop
 Inv-loop n flat ends work₀ words first count i₀ work i =

@@ -9,7 +9,7 @@ use borrow.Author.Tests.{lt-ltb, eq-eqb, ne-eqb}
 use lib.ListN.{length, getD, set, length-set}
 use lib.Seq.{getD-set-same, getD-set-other}
 use Rattle.binary.specs.Words.{listed}
-use Rattle.halves.specs.Fills.{Filled, openMark}
+use Rattle.starting.specs.Fills.{Filled, openMark}
 
 pub fill-none : (f : ℕ → ℕ) (l : List ℕ) → Filled f 0 l l
 fill-none f l = record { long = refl; first = λ q h. absurd (omega arith); rest = λ q h. refl }

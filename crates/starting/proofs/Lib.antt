@@ -1,0 +1,4 @@
+pub mod ListFills
+pub mod Packing
+pub mod Marks
+pub mod Ways

@@ -1,0 +1,81 @@
+-- The marks of the start in the lists are the machine's. Assumes nothing.
+use mathlib.Core.Path.{_≡_, refl, sym, ap, _∙_, fun-ext}
+use mathlib.Core.Bool.{Bool, true, false, cond}
+use mathlib.Core.Logic.{⊎-elim}
+use mathlib.Core.List.{List}
+use Prim.Native.Nat.{ℕ, _*_, _≤_, _<_}
+use native.Mathlib.Omega.{arith}
+use lib.Dec.{eqb, ltb}
+use lib.ListN.{length, getD}
+use borrow.Author.Tests.{lt-ltb, le-ltb, le-leb, ltb-true}
+use Rattle.binary.specs.Meaning.{Qubits, Row, All, fixed?}
+use Rattle.binary.specs.Words.{listed}
+use Rattle.binary.proofs.Bits.{never, and-out}
+use Rattle.binary.proofs.Elimination.{fixed-lost}
+use Rattle.binary.proofs.WordBits.{order}
+use Rattle.packing.specs.Packed.{wordsFor}
+use Rattle.packing.proofs.Rows.{few-words}
+use Rattle.search.specs.Marked.{Marked, enough}
+use Rattle.code.specs.Lists.{rowsFrom}
+use Rattle.code.specs.Tests.{Ascending}
+use Rattle.code.proofs.Order.{rows-below}
+use Rattle.machine.specs.Machine.{isOpen, startMark}
+use Rattle.machine.specs.Lists.{view}
+use Rattle.starting.specs.Fills.{openMark}
+use Rattle.starting.specs.Starting.{PackedFrom}
+use Rattle.starting.proofs.Packing.{rows-count}
+
+pub listed-below : (n : ℕ) (lost : List ℕ) (q : ℕ) → listed n lost q ≡ true → q < n
+unfolding listed
+listed-below n lost q t = ltb-true q n (and-out (ltb q n) (eqb (getD lost q 0) 1) t .0)
+
+unlisted : (n : ℕ) (lost : List ℕ) (q : ℕ) → n ≤ q → listed n lost q ≡ false
+unfolding listed
+unlisted n lost q l = rw (le-ltb q n l)
+
+start-mark : (lost? fixed : Bool) → (lost? ≡ false → fixed ≡ false) → _≡_ {A = ℕ} (cond fixed 1 (cond lost? 4 0)) (cond lost? (cond fixed 1 4) 0)
+start-mark true true h = refl
+start-mark true false h = refl
+start-mark false true h = never refl (h refl)
+start-mark false false h = refl
+
+module _ (n : ℕ) (lost marks : List ℕ) where
+  -- Marks that are so below n.
+  module _ (f : Qubits) (within : (q : ℕ) → q < n → getD marks q 0 ≡ startMark (listed n lost) f q) where
+    pub marks-are : view n marks ≡ startMark (listed n lost) f
+    marks-are = fun-ext λ q. ⊎-elim (λ (l : q < n). rw (lt-ltb q n l) (within q l)) (λ (l : n ≤ q). rw (le-ltb q n l) (sym (ap (λ (b : Bool). cond b (cond (f q) 1 4) 0) (unlisted n lost q l)))) (order q n)
+
+  -- Where every lost qubit is open.
+  module _ (opened : (q : ℕ) → q < n → getD marks q 0 ≡ openMark n lost q) where
+    pub open-marks : view n marks ≡ startMark (listed n lost) (λ q. false)
+    open-marks = marks-are (λ q. false) opened
+
+    pub open-lost : isOpen (view n marks) ≡ listed n lost
+    open-lost = ap isOpen open-marks ∙ fun-ext (λ q. same (listed n lost q))
+      where
+        same : (b : Bool) → eqb (cond b (cond false 1 4) 0) 4 ≡ b
+        same true = refl
+        same false = refl
+
+-- The fixed qubits marked where every lost qubit is open.
+module _ (n : ℕ) (flat ends lost : List ℕ) (other others : ℕ) (marks marks′ work work₁ work₂ : List ℕ) (r : Bool)
+    (packed : PackedFrom n flat ends other others work work₁) (fixes : Marked n others lost work₁ marks work₂ marks′ r) where
+  abbrev rs : List Row
+  rs = rowsFrom flat ends other others
+
+  pub long-enough : n ≤ 1024 → others ≤ 512 → 8192 ≤ length work → n ≤ length lost → n ≤ length marks → r ≡ true
+  unfolding enough
+  long-enough a b d e f =
+      let w : wordsFor n ≤ 16 = omega arith in
+      let g = few-words others (wordsFor n) b w in
+      let i = packed .long in
+      fixes .answer
+      ∙ rw (le-leb n 1024 a, le-leb others 512 b, le-leb (others * wordsFor n) (length work₁) (omega arith), le-leb n (length lost) e, le-leb n (length marks) f)
+
+  pub fixed-marks : r ≡ true → ((q : ℕ) → q < n → getD marks q 0 ≡ openMark n lost q) → All (Ascending n) rs
+      → view n marks′ ≡ startMark (listed n lost) (fixed? n rs (listed n lost))
+  fixed-marks ready opened good =
+      marks-are n lost marks′ (fixed? n rs (listed n lost)) λ q l.
+      fixes .marked ready rs (rows-count flat ends other others) (packed .packed) (rows-below n rs good) q l
+      ∙ ap (cond (fixed? n rs (listed n lost) q) 1) (opened q l)
+      ∙ start-mark (listed n lost q) (fixed? n rs (listed n lost) q) (fixed-lost n rs (listed n lost) (rows-below n rs good) q)

@@ -1,0 +1,259 @@
+-- The two ways of a start: the lost qubits peel away, or the search is made. Assumes nothing.
+use mathlib.Core.Path.{_≡_, refl, sym, ap, _∙_, fun-ext, subst}
+use mathlib.Core.Bool.{Bool, true, false, not, _&&_, cond}
+use mathlib.Core.Logic.{inl, inr, ⊎-elim}
+use mathlib.Core.Option.{Option}
+use mathlib.Core.List.{List}
+use Prim.Native.Nat.{ℕ, zero, suc, _+_, _-_, _≤_, _<_}
+use native.Mathlib.Omega.{arith}
+use lib.Dec.{leb}
+use lib.ListN.{length, getD}
+use borrow.Author.Tests.{leb-true, le-leb}
+use Rattle.binary.specs.Meaning.{Qubits, Row, Check, All, Even, Commute, fixed?}
+use Rattle.binary.specs.Words.{listed}
+use Rattle.binary.specs.Classes.{Commuting}
+use Rattle.binary.proofs.Bits.{bit, never, and-out, not-out}
+use Rattle.binary.proofs.WordBits.{order}
+use Rattle.lists.specs.Copied.{apart?, Copied}
+use Rattle.code.specs.Lists.{rowAt, rowsFrom}
+use Rattle.code.specs.Tests.{Ascending}
+use Rattle.code.proofs.Order.{rows-below}
+use Rattle.machine.specs.Machine.{isOpen, keepIf, startMark, start, degree, most, run}
+use Rattle.machine.specs.Lists.{view}
+use Rattle.machine.specs.Peeling.{peelsAway}
+use Rattle.machine.proofs.Peeling.{unfixed, unasked}
+use Rattle.scans.specs.Rows.{RowLists, read?, checkAt, checksFrom, rowChecks, GoodRows}
+use Rattle.scans.proofs.Scanning.{open-below}
+use Rattle.kept.specs.Kept.{Kept, RowsOn}
+use Rattle.kept.proofs.Same.{kept-same, rows-same}
+use Rattle.filling.specs.Filling as filling
+use Rattle.filling.specs.Filling.{Fills}
+use Rattle.peeling.specs.Peeling as peeling
+use Rattle.peeling.specs.Peeling.{Peels, Ready, rowsIn}
+use Rattle.packing.specs.Packed.{wordsFor}
+use Rattle.search.specs.Marked.{Marked}
+use Rattle.guessing.specs.Guessing.{degreeOf, countable?, Counts}
+use Rattle.guessing.proofs.Choices.{counted-rule}
+use Rattle.guessing.proofs.Room.{counts-long}
+use Rattle.starting.specs.Fills.{Filled, openMark}
+use Rattle.starting.specs.Starting.{PackedFrom, fixedIn, Keeps, Saved, PeeledFirst, Searched, Begun, fits?, fitting, Starts}
+use Rattle.starting.proofs.Marks.{listed-below, open-marks, open-lost, long-enough, fixed-marks}
+
+----------------------------------------------------------------------
+-- Rows and checks
+
+-- Rows that commute with the other kind do so as checks.
+commuting-checks : (flat ends lit : List ℕ) (others : List Row) (r count : ℕ) → Commute (rowsFrom flat ends r count) others → Commuting others (checksFrom flat ends lit r count)
+commuting-checks flat ends lit others r zero e = tt
+commuting-checks flat ends lit others r (suc count) e = go (read? lit r) (commuting-checks flat ends lit others (suc r) count (e .1))
+  where
+    go : (b : Bool) → Commuting others (checksFrom flat ends lit (suc r) count) → Commuting others (keepIf b (checkAt flat ends lit r) (checksFrom flat ends lit (suc r) count))
+    go true v = (e .0, v)
+    go false v = v
+
+-- A list that keeps the same.
+keeps-same : (n : ℕ) (c : RowLists) (work work′ marks : List ℕ) → n ≤ 1024 → c .count ≤ 512 → ((k : ℕ) → k < 9216 → getD work′ k 0 ≡ getD work k 0) → Keeps n c work marks → Keeps n c work′ marks
+keeps-same n c work work′ marks size few same k =
+    record {
+      kept = kept-same (isOpen (view n marks)) c work work′ few same (k .kept);
+      on = rows-same n (isOpen (view n marks)) (isOpen (view n marks)) c work work′ few (λ i h. same i (omega arith))
+          (λ q e. let l = open-below n marks q e in (e, omega arith)) (k .on);
+    }
+
+keeps-as : (n : ℕ) (c : RowLists) (work marks marks′ : List ℕ) → isOpen (view n marks) ≡ isOpen (view n marks′) → Keeps n c work marks → Keeps n c work marks′
+keeps-as n c work marks marks′ e k = record { kept = subst (λ (o : Qubits). Kept o c work) e (k .kept); on = subst (λ (o : Qubits). RowsOn o c work) e (k .on) }
+
+filled-keeps : (n : ℕ) (c : RowLists) (marks work work′ : List ℕ) → n ≤ 1024 → c .count ≤ 512 → c .first + c .count ≤ 1024 → c .first + c .count ≤ length (c .lit) → 9216 ≤ length work
+    → Fills n c marks work work′ → GoodRows n c → Keeps n c work′ marks
+unfolding filling.fits?
+filled-keeps n c marks work work′ size few last lit words f good =
+    let t : filling.fits? n c (length work) ≡ true
+    = rw (le-leb n 1024 size, le-leb (c .count) 512 few, le-leb (c .first + c .count) 1024 last, le-leb 9216 (length work) words, le-leb (c .first + c .count) (length (c .lit)) lit) in
+    record { kept = f .kept t; on = f .rows t good }
+
+----------------------------------------------------------------------
+-- Peeling first
+
+module _ (n : ℕ) (c : RowLists) (lost work work₁ work₂ work₃ marks marks₁ marks₂ marks₃ : List ℕ) (r : Bool) (size : n ≤ 1024) (few : c .count ≤ 512) (first : c .first ≤ 512)
+    (words : 10240 ≤ length work) (room : n ≤ length marks) (lit : c .first + c .count ≤ length (c .lit))
+    (opened : Filled (openMark n lost) n marks marks₁) (filled : Fills n c marks₁ work work₁) (copied : Copied 8192 9216 1024 work₁ work₂)
+    (peels : Peels n (c .flat) (c .ends) (c .first) (c .count) (record { marks = marks₁; work = work₂ }) (record { marks = marks₂; work = work₃ }) r)
+    (again : Filled (openMark n lost) n marks₂ marks₃) where
+  apart : apart? (length work₁) 8192 9216 1024 ≡ true
+  unfolding apart?
+  apart = let l = filled .long in rw (le-leb 9216 (length work₁) (omega arith), le-leb 10240 (length work₁) (omega arith))
+
+  stays-below : (k : ℕ) → k < 9216 → getD work₂ k 0 ≡ getD work₁ k 0
+  stays-below k h = copied .stays apart k (inl h)
+
+  keeps-then : GoodRows n c → Keeps n c work₁ marks₁
+  keeps-then good = filled-keeps n c marks₁ work work₁ size few (omega arith) lit (omega arith) filled good
+
+  ready : GoodRows n c → Ready n (rowsIn (c .flat) (c .ends) (c .first) (c .count) (c .lit)) (record { marks = marks₁; work = work₂ })
+  ready good = let k = keeps-same n c work₁ work₂ marks₁ size few stays-below (keeps-then good) in record { good = good; kept = k .kept; on = k .on }
+
+  fits : peeling.fits? n (c .first) (c .count) (length marks₁) (length work₂) ≡ true
+  unfolding peeling.fits?
+  fits =
+      let a = opened .long in
+      let b = filled .long in
+      let d = copied .long in
+      rw (le-leb n 1024 size, le-leb (c .count) 512 few, le-leb (c .first + c .count) 1024 (omega arith), le-leb n (length marks₁) (omega arith), le-leb 9216 (length work₂) (omega arith))
+
+  same-open : isOpen (view n marks₁) ≡ isOpen (view n marks₃)
+  same-open = open-lost n lost marks₁ (opened .first) ∙ sym (open-lost n lost marks₃ (again .first))
+
+  pub peeled-first : PeeledFirst n c lost work work₃ marks marks₃ r
+  peeled-first =
+      record {
+        long = peels .stays .work-long ∙ copied .long ∙ filled .long;
+        opened = record {
+          long = again .long ∙ peels .stays .marks-long ∙ opened .long;
+          first = again .first;
+          rest = λ q h. again .rest q h ∙ peels .stays .rest q h ∙ opened .rest q h;
+        };
+        told = λ good. peels .told fits (c .lit) (ready good) .answer ∙ ap (peelsAway (rowChecks c) n) (open-lost n lost marks₁ (opened .first));
+        saved = λ good. record {
+          work = work₁;
+          keeps = keeps-as n c work₁ marks₁ marks₃ same-open (keeps-then good);
+          below = λ k h. peels .stays .below k h ∙ stays-below k (omega arith);
+          copied = λ j h. peels .stays .past (9216 + j) (omega arith) ∙ copied .copied apart j h;
+        };
+      }
+
+----------------------------------------------------------------------
+-- The search
+
+module _ (n : ℕ) (c : RowLists) (lost : List ℕ) (other others : ℕ) (work work₁ work₂ work₃ work₄ marks marks′ : List ℕ) (r : Bool) (size : n ≤ 1024) (many : others ≤ 512)
+    (words : 10240 ≤ length work) (long : n ≤ length lost) (room : n ≤ length marks)
+    (packed : PackedFrom n (c .flat) (c .ends) other others work work₁) (fixes : Marked n others lost work₁ marks work₂ marks′ r)
+    (filled : Fills n c marks′ work₂ work₃) (counts : Counts n (c .flat) (c .ends) (c .lit) (c .first) (c .count) work₃ work₄) where
+  long-then : length work₃ ≡ length work
+  long-then = filled .long ∙ fixes .work-size ∙ packed .long
+
+  countable : c .first + c .count ≤ length (c .lit) → c .first ≤ 512 → c .count ≤ 512 → countable? n (c .first) (c .count) (length (c .lit)) (length work₃) ≡ true
+  unfolding countable?
+  countable lit first few =
+      let l = long-then in
+      rw (le-leb n 1024 size, le-leb (c .first + c .count) 1024 (omega arith), le-leb (c .first + c .count) (length (c .lit)) lit, le-leb 10240 (length work₃) (omega arith))
+
+  pub searched : Searched n c lost other others work work₄ marks marks′
+  searched =
+      record {
+        work-long = counts-long n (c .flat) (c .ends) (c .lit) (c .first) (c .count) work₃ work₄ counts ∙ long-then;
+        marks-long = fixes .size;
+        rest = fixes .rest;
+        marked = λ opened good.
+            fixed-marks n (c .flat) (c .ends) lost other others marks marks′ work work₁ work₂ r packed fixes
+            (long-enough n (c .flat) (c .ends) lost other others marks marks′ work work₁ work₂ r packed fixes size many (omega arith) long room) opened good;
+        keeps = λ lit first few good.
+            let l = long-then in
+            let m = filled .long in
+            keeps-same n c work₃ work₄ marks′ size few (counts .counts (countable lit first few) .below)
+            (filled-keeps n c marks′ work₂ work₃ size few (omega arith) lit (omega arith) filled good);
+        degrees = λ lit first few good o.
+            counted-rule n (c .flat) (c .ends) (c .lit) (c .first) (c .count) work₃ work₄ o (counts .counts (countable lit first few)) good;
+      }
+
+----------------------------------------------------------------------
+-- The promise
+
+-- What the functions below ask.
+pub record Fitting (n : ℕ) (c : RowLists) (lost : List ℕ) (other others : ℕ) (work marks : List ℕ) : Type 0 where
+  pub size : n ≤ 1024
+  pub few : c .count ≤ 512
+  pub many : others ≤ 512
+  pub first : c .first ≤ 512
+  pub other-first : other ≤ 512
+  pub words : 10240 ≤ length work
+  pub lost-long : n ≤ length lost
+  pub lit : c .first + c .count ≤ length (c .lit)
+  pub marks-long : n ≤ length marks
+
+module _ (n : ℕ) (c : RowLists) (lost : List ℕ) (other others : ℕ) (work marks : List ℕ) (told : Bool) (tells : told ≡ fitting n c lost other others work marks) where
+  pub starts-not : not told ≡ true → Starts n c lost other others work work marks marks
+  starts-not e =
+      record { work-long = refl; marks-long = refl; rest = λ q h. refl; refused = λ u. (refl, refl); begun = λ u. never u (sym tells ∙ not-out told e) }
+
+  does-fit : not told ≡ false → fitting n c lost other others work marks ≡ true
+  does-fit e = bit (fitting n c lost other others work marks) (λ y. y) (λ y. never (ap not (tells ∙ y)) e)
+
+  pub fits-out : not told ≡ false → Fitting n c lost other others work marks
+  unfolding fits?
+  fits-out e =
+      let a = and-out _ (leb n (length marks)) (does-fit e) in
+      let b = and-out _ (leb (c .first + c .count) (length (c .lit))) (a .0) in
+      let d = and-out _ (leb n (length lost)) (b .0) in
+      let f = and-out _ (leb 10240 (length work)) (d .0) in
+      let g = and-out _ (leb other 512) (f .0) in
+      let h = and-out _ (leb (c .first) 512) (g .0) in
+      let i = and-out _ (leb others 512) (h .0) in
+      let j = and-out (leb n 1024) (leb (c .count) 512) (i .0) in
+      record {
+        size = leb-true _ _ (j .0);
+        few = leb-true _ _ (j .1);
+        many = leb-true _ _ (i .1);
+        first = leb-true _ _ (h .1);
+        other-first = leb-true _ _ (g .1);
+        words = leb-true _ _ (f .1);
+        lost-long = leb-true _ _ (d .1);
+        lit = leb-true _ _ (b .1);
+        marks-long = leb-true _ _ (a .1);
+      }
+
+  module _ (e : not told ≡ false) (work₁ marks₁ : List ℕ) (r : Bool) (first : PeeledFirst n c lost work work₁ marks marks₁ r) where
+    -- The lost qubits peel away, and what was kept of the rows is back in its place.
+    pub starts-peeled : r ≡ true → (work₂ : List ℕ) → Copied 9216 8192 1024 work₁ work₂ → Starts n c lost other others work work₂ marks marks₁
+    unfolding apart?
+    starts-peeled away work₂ restored =
+        record {
+          work-long = restored .long ∙ first .long;
+          marks-long = first .opened .long;
+          rest = first .opened .rest;
+          refused = λ u. never (does-fit e) u;
+          begun = λ u good others-good even. begun good others-good even;
+        }
+      where
+        f : Fitting n c lost other others work marks
+        f = fits-out e
+
+        apart : apart? (length work₁) 9216 8192 1024 ≡ true
+        apart = let l = first .long in let w = f .words in rw (le-leb 10240 (length work₁) (omega arith), le-leb 9216 (length work₁) (omega arith))
+
+        back : (s : Saved n c marks₁ work₁) → (k : ℕ) → k < 9216 → getD work₂ k 0 ≡ getD (s .work) k 0
+        back s k h =
+            ⊎-elim (λ (l : k < 8192). restored .stays apart k (inl l) ∙ s .below k l)
+            (λ (l : 8192 ≤ k). let i : 8192 + (k - 8192) ≡ k = omega arith in
+            subst (λ (x : ℕ). getD work₂ x 0 ≡ getD (s .work) x 0) i (restored .copied apart (k - 8192) (omega arith) ∙ s .copied (k - 8192) (omega arith))) (order k 8192)
+
+        begun : GoodRows n c → All (Ascending n) (rowsFrom (c .flat) (c .ends) other others)
+            → Commute (rowsFrom (c .flat) (c .ends) (c .first) (c .count)) (rowsFrom (c .flat) (c .ends) other others) → Begun n c lost other others work₂ marks₁
+        begun good others-good even =
+            let s = first .saved good in
+            let leaves : peelsAway (rowChecks c) n (listed n lost) ≡ true = sym (first .told good) ∙ away in
+            let none-fixed = unfixed n (rowsFrom (c .flat) (c .ends) other others) (listed n lost) (rowChecks c) (rows-below n (rowsFrom (c .flat) (c .ends) other others) others-good)
+            (listed-below n lost) (commuting-checks (c .flat) (c .ends) (c .lit) (rowsFrom (c .flat) (c .ends) other others) (c .first) (c .count) even) leaves in
+            record {
+              marked = open-marks n lost marks₁ (first .opened .first) ∙ ap (startMark (listed n lost)) (sym (fun-ext none-fixed));
+              keeps = keeps-same n c (s .work) work₂ marks₁ (f .size) (f .few) (back s) (s .keeps);
+              ruled = λ budget limit. unasked (rowChecks c) n (listed n lost) (fixedIn n c lost other others) none-fixed leaves (most (degreeOf work₂) n) (most (degree (rowChecks c)) n) budget limit (suc limit);
+            }
+
+    -- The search is made.
+    pub starts-searched : (work₂ marks₂ : List ℕ) → Searched n c lost other others work₁ work₂ marks₁ marks₂ → Starts n c lost other others work work₂ marks marks₂
+    starts-searched work₂ marks₂ v =
+        record {
+          work-long = v .work-long ∙ first .long;
+          marks-long = v .marks-long ∙ first .opened .long;
+          rest = λ q h. v .rest q h ∙ first .opened .rest q h;
+          refused = λ u. never (does-fit e) u;
+          begun = λ u good others-good even.
+              let f = fits-out e in
+              record {
+                marked = v .marked (first .opened .first) others-good;
+                keeps = v .keeps (f .lit) (f .first) (f .few) good;
+                ruled = λ budget limit.
+                    ap (λ (rule : Qubits → Option ℕ). run (rowChecks c) n rule budget limit (suc limit) (start (rowChecks c) (listed n lost) (fixedIn n c lost other others)))
+                    (fun-ext (v .degrees (f .lit) (f .first) (f .few) good));
+              };
+        }

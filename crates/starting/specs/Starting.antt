@@ -1,0 +1,89 @@
+-- The start of a half in the lists.
+--   PackedFrom   the work list holds the other kind's rows, packed
+--   fixedIn      the fixed qubits, of the other kind's rows in the lists
+--   Keeps        what is kept of the half's own rows is right over the marks
+--   PeeledFirst  whether the lost qubits peel away
+--   Searched     the fixed qubits marked
+--   Begun        the marks are the start's, and the rule that the work list gives leads to the same end as the machine's
+--   Starts       the promise of `start`
+use mathlib.Core.Path.{_≡_}
+use mathlib.Core.Bool.{Bool, true, false, _&&_}
+use mathlib.Core.List.{List}
+use Prim.Native.Nat.{ℕ, suc, _+_, _≤_, _<_}
+use lib.Dec.{leb}
+use lib.ListN.{length, getD}
+use Rattle.binary.specs.Meaning.{Qubits, All, Commute, fixed?}
+use Rattle.binary.specs.Words.{listed}
+use Rattle.packing.specs.Packed.{wordsFor, Packed}
+use Rattle.code.specs.Lists.{rowsFrom}
+use Rattle.code.specs.Tests.{Ascending}
+use Rattle.machine.specs.Machine.{isOpen, startMark, start, degree, most, run}
+use Rattle.machine.specs.Lists.{view}
+use Rattle.machine.specs.Peeling.{peelsAway}
+use Rattle.scans.specs.Rows.{RowLists, rowChecks, GoodRows}
+use Rattle.kept.specs.Kept.{Kept, RowsOn}
+use Rattle.guessing.specs.Guessing.{degreeOf}
+use Rattle.starting.specs.Fills.{Filled, openMark}
+
+pub record PackedFrom (n : ℕ) (flat ends : List ℕ) (other others : ℕ) (work work′ : List ℕ) : Type 0 where
+  pub long : length work′ ≡ length work
+  pub packed : Packed n (wordsFor n) (rowsFrom flat ends other others) work′
+
+abbrev pub fixedIn : ℕ → RowLists → List ℕ → ℕ → ℕ → Qubits
+fixedIn n c lost other others = fixed? n (rowsFrom (c .flat) (c .ends) other others) (listed n lost)
+
+pub record Keeps (n : ℕ) (c : RowLists) (work marks : List ℕ) : Type 0 where
+  pub kept : Kept (isOpen (view n marks)) c work
+  pub on : RowsOn (isOpen (view n marks)) c work
+
+----------------------------------------------------------------------
+-- The two ways
+
+-- What was kept of the rows, before it was used up: elements below 8192 stay, and those up to 9216 have a copy.
+pub record Saved (n : ℕ) (c : RowLists) (marks work′ : List ℕ) : Type 0 where
+  pub work : List ℕ
+  pub keeps : Keeps n c work marks
+  pub below : (k : ℕ) → k < 8192 → getD work′ k 0 ≡ getD work k 0
+  pub copied : (j : ℕ) → j < 1024 → getD work′ (9216 + j) 0 ≡ getD work (8192 + j) 0
+
+pub record PeeledFirst (n : ℕ) (c : RowLists) (lost work work′ marks marks′ : List ℕ) (r : Bool) : Type 0 where
+  pub long : length work′ ≡ length work
+  pub opened : Filled (openMark n lost) n marks marks′
+  pub told : GoodRows n c → r ≡ peelsAway (rowChecks c) n (listed n lost)
+  pub saved : GoodRows n c → Saved n c marks′ work′
+
+-- From marks that have every lost qubit open.
+pub record Searched (n : ℕ) (c : RowLists) (lost : List ℕ) (other others : ℕ) (work work′ marks marks′ : List ℕ) : Type 0 where
+  pub work-long : length work′ ≡ length work
+  pub marks-long : length marks′ ≡ length marks
+  pub rest : (q : ℕ) → n ≤ q → getD marks′ q 0 ≡ getD marks q 0
+  pub marked : ((q : ℕ) → q < n → getD marks q 0 ≡ openMark n lost q) → All (Ascending n) (rowsFrom (c .flat) (c .ends) other others)
+      → view n marks′ ≡ startMark (listed n lost) (fixedIn n c lost other others)
+  pub keeps : c .first + c .count ≤ length (c .lit) → c .first ≤ 512 → c .count ≤ 512 → GoodRows n c → Keeps n c work′ marks′
+  pub degrees : c .first + c .count ≤ length (c .lit) → c .first ≤ 512 → c .count ≤ 512 → GoodRows n c
+      → (o : Qubits) → most (degreeOf work′) n o ≡ most (degree (rowChecks c)) n o
+
+----------------------------------------------------------------------
+-- The promise
+
+pub record Begun (n : ℕ) (c : RowLists) (lost : List ℕ) (other others : ℕ) (work marks : List ℕ) : Type 0 where
+  pub marked : view n marks ≡ startMark (listed n lost) (fixedIn n c lost other others)
+  pub keeps : Keeps n c work marks
+  pub ruled : (budget limit : ℕ) → let s = start (rowChecks c) (listed n lost) (fixedIn n c lost other others) in
+      run (rowChecks c) n (most (degreeOf work) n) budget limit (suc limit) s ≡ run (rowChecks c) n (most (degree (rowChecks c)) n) budget limit (suc limit) s
+
+unfoldable pub fits? : ℕ → ℕ → ℕ → ℕ → ℕ → ℕ → ℕ → ℕ → ℕ → Bool
+fits? n lost lit first count other others work marks =
+    leb n 1024 && leb count 512 && leb others 512 && leb first 512 && leb other 512 && leb 10240 work && leb n lost && leb (first + count) lit && leb n marks
+
+abbrev pub fitting : ℕ → RowLists → List ℕ → ℕ → ℕ → List ℕ → List ℕ → Bool
+fitting n c lost other others work marks = fits? n (length lost) (length (c .lit)) (c .first) (c .count) other others (length work) (length marks)
+
+-- Where sizes and lists fit, of rows that are strictly ascending and below n, and commute. Otherwise nothing is written.
+pub record Starts (n : ℕ) (c : RowLists) (lost : List ℕ) (other others : ℕ) (work work′ marks marks′ : List ℕ) : Type 0 where
+  pub work-long : length work′ ≡ length work
+  pub marks-long : length marks′ ≡ length marks
+  pub rest : (q : ℕ) → n ≤ q → getD marks′ q 0 ≡ getD marks q 0
+  pub refused : fitting n c lost other others work marks ≡ false → (work′ ≡ work) × (marks′ ≡ marks)
+  pub begun : fitting n c lost other others work marks ≡ true → GoodRows n c → All (Ascending n) (rowsFrom (c .flat) (c .ends) other others)
+      → Commute (rowsFrom (c .flat) (c .ends) (c .first) (c .count)) (rowsFrom (c .flat) (c .ends) other others) → Begun n c lost other others work′ marks′

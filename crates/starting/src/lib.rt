@@ -1,0 +1,132 @@
+// The start of a half: its marks, and what is kept of its rows over them. Peeling comes first, and the search for fixed qubits is made only where it
+// leaves a qubit.
+ghost use mathlib.Core.Path.{_≡_};
+ghost use Prim.Native.Nat.{_+_, _≤_};
+ghost use lib.ListN.{length};
+ghost use Rattle.starting.specs.Fills.{Filled, openMark};
+ghost use Rattle.starting.specs.Starting.{PackedFrom, PeeledFirst, Searched, fits?, Starts};
+use code::Row;
+use code::Rows;
+
+// A number as an index.
+fn index(x: u16) -> usize
+    ensures { λ r. ⌜ r ≡ x ⌝ }
+{
+    x as usize
+}
+
+// Packs the rows into the work list, from its start.
+fn pack_rows(n: u16, flat: &[u16], ends: &[u16], rows: Rows, work: &mut [u64])
+    requires { ⌜ (n ≤ 1024) × (rows .count ≤ 512) × (rows .first .0 ≤ 512) × (8192 ≤ length (now work)) ⌝ }
+    ensures { λ _. ⌜ PackedFrom n (now (flat .entry)) (now (ends .entry)) (rows .first .0) (rows .count) (now (work .entry)) (now (work .exit)) ⌝ }
+{
+    let words = packing::words_for(n);
+    let first = rows.first;
+    let count = rows.count;
+    let mut i: u16 = 0;
+    while i < count {
+        let row = code::row_at(flat, ends, Row(first.0 + i));
+        packing::put_row(work, words, index(i), row);
+        i += 1;
+    }
+}
+
+// Each lost qubit is marked open, each other one not lost.
+fn start_marks(n: usize, lost: &[u8], marks: &mut [u8])
+    requires { do ⌜ n ≤ (← ⟦lost.len()⟧) ⌝ }
+    requires { do ⌜ n ≤ (← ⟦marks.len()⟧) ⌝ }
+    ensures { λ _. ⌜ Filled (openMark n (now (lost .entry))) n (now (marks .entry)) (now (marks .exit)) ⌝ }
+{
+    let mut q: usize = 0;
+    while q < n {
+        marks[q] = if lost[q] == 1 { 4 } else { 0 };
+        q += 1;
+    }
+}
+
+// Whether the lost qubits peel away, without a look at any reading. They are marked open; the work list has what was kept of the rows, its elements from 8192
+// to 9215 as a copy from 9216 on.
+fn peel_first(
+    n: u16,
+    flat: &[u16],
+    ends: &[u16],
+    lost: &[u8],
+    lit: &[u8],
+    own: Rows,
+    work: &mut [u64],
+    marks: &mut [u8],
+) -> bool
+    requires { ⌜ (n ≤ 1024) × (own .count ≤ 512) × (own .first .0 ≤ 512) × (10240 ≤ length (now work)) × (n ≤ length (now lost)) × (n ≤ length (now marks)) × (own .first .0 + own .count ≤ length (now lit)) ⌝ }
+    ensures { λ r. ⌜ PeeledFirst n (record { flat = now (flat .entry); ends = now (ends .entry); lit = now (lit .entry); first = own .first .0; count = own .count }) (now (lost .entry)) (now (work .entry)) (now (work .exit)) (now (marks .entry)) (now (marks .exit)) r ⌝ }
+{
+    let size = n as usize;
+    start_marks(size, lost, marks);
+    filling::fill(n, flat, ends, lit, own, marks, work);
+    lists::copy_words(work, 8192, 9216, 1024);
+    let away = peeling::peels_away(n, flat, ends, own, marks, work);
+    start_marks(size, lost, marks);
+    away
+}
+
+// The fixed qubits are found, and marked; then the rows are kept anew, and the rows on each qubit counted.
+fn search_fixed(
+    n: u16,
+    flat: &[u16],
+    ends: &[u16],
+    lost: &[u8],
+    lit: &[u8],
+    own: Rows,
+    others: Rows,
+    work: &mut [u64],
+    marks: &mut [u8],
+)
+    requires { ⌜ (n ≤ 1024) × (others .count ≤ 512) × (others .first .0 ≤ 512) × (10240 ≤ length (now work)) × (n ≤ length (now lost)) × (n ≤ length (now marks)) ⌝ }
+    ensures { λ _. ⌜ Searched n (record { flat = now (flat .entry); ends = now (ends .entry); lit = now (lit .entry); first = own .first .0; count = own .count }) (now (lost .entry)) (others .first .0) (others .count) (now (work .entry)) (now (work .exit)) (now (marks .entry)) (now (marks .exit)) ⌝ }
+{
+    pack_rows(n, flat, ends, others, work);
+    search::mark_fixed(n, others.count as usize, lost, work, marks);
+    filling::fill(n, flat, ends, lit, own, marks, work);
+    guessing::count_rows(n, flat, ends, lit, own, work);
+}
+
+// Whether the sizes are document 01's and the lists long enough.
+fn fits(n: u16, lost: &[u8], lit: &[u8], own: Rows, others: Rows, work: &[u64], marks: &[u8]) -> bool
+    ensures { λ r. ⌜ r ≡ fits? n (length (now (lost .entry))) (length (now (lit .entry))) (own .first .0) (own .count) (others .first .0) (others .count) (length (now (work .entry))) (length (now (marks .entry))) ⌝ }
+{
+    let size = n as usize;
+    let first = own.first;
+    let other = others.first;
+    let last = first.0 as usize + own.count as usize;
+    let small = (n <= 1024)
+        & (own.count <= 512)
+        & (others.count <= 512)
+        & (first.0 <= 512)
+        & (other.0 <= 512);
+    let shot = small & (10240 <= work.len()) & (size <= lost.len());
+    shot & (last <= lit.len()) & (size <= marks.len())
+}
+
+// The marks of the start: fixed qubits are settled, all other lost ones open. The work list has what is kept of the half's own rows. Nothing is written where
+// sizes or lists do not fit.
+pub fn start(
+    n: u16,
+    flat: &[u16],
+    ends: &[u16],
+    lost: &[u8],
+    lit: &[u8],
+    own: Rows,
+    others: Rows,
+    work: &mut [u64],
+    marks: &mut [u8],
+)
+    ensures { λ _. ⌜ Starts n (record { flat = now (flat .entry); ends = now (ends .entry); lit = now (lit .entry); first = own .first .0; count = own .count }) (now (lost .entry)) (others .first .0) (others .count) (now (work .entry)) (now (work .exit)) (now (marks .entry)) (now (marks .exit)) ⌝ }
+{
+    if !fits(n, lost, lit, own, others, work, marks) {
+        return;
+    }
+    if peel_first(n, flat, ends, lost, lit, own, work, marks) {
+        lists::copy_words(work, 9216, 8192, 1024);
+        return;
+    }
+    search_fixed(n, flat, ends, lost, lit, own, others, work, marks);
+}
