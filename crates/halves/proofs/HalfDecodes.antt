@@ -9,13 +9,10 @@ use native.Mathlib.Omega.{arith}
 use lib.Dec.{eqb, leb}
 use lib.ListN.{length, getD}
 use borrow.Author.Tests.{lt-ltb, le-ltb, le-leb, leb-true}
-use Rattle.binary.specs.Meaning.{All}
 use Rattle.binary.specs.Words.{bit}
 use Rattle.binary.proofs.Bits.{bit as cases, never, and-out, and-in}
 use Rattle.binary.proofs.WordBits.{bit-zero, order}
-use Rattle.code.specs.Lists.{rowsFrom}
-use Rattle.code.specs.Tests.{Ascending}
-use Rattle.kept.specs.Rows.{RowLists}
+use Rattle.scans.specs.Rows.{RowLists}
 use Rattle.kept.specs.Kept.{Kept}
 use Rattle.machine.specs.declared.Word.{Word}
 use Rattle.machine.specs.declared.HalfReport.{HalfReport}
@@ -32,7 +29,9 @@ use Rattle.turns.specs.declared.RunAnswer.the-variants as turns-answer
 use Rattle.turns.specs.Turns.{Working, Stays}
 use Rattle.turns.specs.Runs.{Ran, Runs}
 use Rattle.turns.specs.Runs as runs
-use Rattle.halves.specs.Starts.{halfIn, Started, Finished, fits?, HalfDone}
+use Rattle.starting.specs.Starting.{Starts}
+use Rattle.starting.specs.Starting as starts
+use Rattle.halves.specs.Starts.{halfIn, Finished, fits?, RowsObey, HalfDone}
 use Rattle.machine.proofs.Values.{value-off}
 use Rattle.halves.proofs.Finishing.{not-none}
 use Rattle.halves.proofs.HalfRuns.{decoded-is}
@@ -101,42 +100,49 @@ module _ (n : ℕ) (c : RowLists) (mid : Working) (correction : List ℕ) (new :
   unfolding shown
   ended-shows old past = record { marks = marks-shown; forms = forms-shown; correction = flips-shown; past = past }
 
-pub half-done : (n : ℕ) (c : RowLists) (lost : List ℕ) (other others budget limit : ℕ) (marks marks₁ forms correction work : List ℕ) (mid : Working) (new : HalfLists)
-    (a : RunAnswer) (r : HalfReport) → Started n (c .flat) (c .ends) lost other others marks marks₁
-    → Runs n c budget limit (record { marks = marks₁; forms = forms; work = work }) mid a → runs.fitting n c budget (record { marks = marks₁; forms = forms; work = work }) ≡ true
+-- Sizes and lists that fit the decode fit its start.
+pub start-fits : (n lost lit first count other others work marks : ℕ) → n ≤ 1024 → count ≤ 512 → others ≤ 512 → first ≤ 512 → other ≤ 512 → 10240 ≤ work → n ≤ lost → first + count ≤ lit
+    → n ≤ marks → starts.fits? n lost lit first count other others work marks ≡ true
+unfolding starts.fits?
+start-fits n lost lit first count other others work marks a b d e f g h i j =
+    rw (le-leb n 1024 a, le-leb count 512 b, le-leb others 512 d, le-leb first 512 e, le-leb other 512 f, le-leb 10240 work g, le-leb n lost h, le-leb (first + count) lit i, le-leb n marks j)
+
+pub half-done : (n : ℕ) (c : RowLists) (lost : List ℕ) (other others budget limit : ℕ) (marks marks₁ forms correction work work₁ : List ℕ) (mid : Working) (new : HalfLists)
+    (a : RunAnswer) (r : HalfReport) → Starts n c lost other others work work₁ marks marks₁ → starts.fitting n c lost other others work marks ≡ true
+    → Runs n c budget limit (record { marks = marks₁; forms = forms; work = work₁ }) mid a → runs.fitting n c budget (record { marks = marks₁; forms = forms; work = work₁ }) ≡ true
     → a ≡ Over r → Finished n (r .word) (record { marks = mid .marks; forms = mid .forms; correction = correction }) new
     → HalfDone n c lost other others budget limit (mid .work) (record { marks = marks; forms = forms; correction = correction }) new r
 unfolding shown
-half-done n c lost other others budget limit marks marks₁ forms correction work mid new a r begun v fits told f =
+half-done n c lost other others budget limit marks marks₁ forms correction work work₁ mid new a r starts can-start v fits told f =
     record {
       lengths = record {
-        marks = f .marks .long ∙ v .stays .marks-long ∙ begun .long;
+        marks = f .marks .long ∙ v .stays .marks-long ∙ starts .marks-long;
         forms = f .forms .long ∙ v .stays .forms-long;
         correction = f .correction .long;
       };
       past = past;
-      shows = λ own good.
-          let w = ran own good in
-          (w .report, ended-shows n c mid correction new r e w f (record { marks = marks; forms = forms; correction = correction }) past);
-      kept = λ own good. ended-kept n c mid correction new r e (ran own good) f;
+      shows = λ obey. let w = ran obey in (w .report, ended-shows n c mid correction new r e w f (record { marks = marks; forms = forms; correction = correction }) past);
+      kept = λ obey. ended-kept n c mid correction new r e (ran obey) f;
     }
   where
     e : End
     e = decoded (halfIn n c lost other others) budget limit
 
-    ran : All (Ascending n) (rowsFrom (c .flat) (c .ends) (c .first) (c .count)) → All (Ascending n) (rowsFrom (c .flat) (c .ends) other others) → Ran n c mid r e
-    ran own good =
+    ran : RowsObey n c other others → Ran n c mid r e
+    ran obey =
         let o = v .over fits in
         let same : o .0 ≡ r = cc in
+        let b = starts .begun can-start (obey .own) (obey .other-kind) (obey .commute) in
         subst (λ (x : HalfReport). Ran n c mid x e) same
-        (subst (Ran n c mid (o .0)) (sym (decoded-is n c lost other others budget limit marks marks₁ begun good)) (o .2 own))
+        (subst (Ran n c mid (o .0)) (sym (decoded-is n c lost other others budget limit marks₁ forms work₁ b))
+        (o .2 (record { good = obey .own; kept = b .keeps .kept; on = b .keeps .on })))
 
     stays : Stays n (record { marks = marks; forms = forms; work = work }) mid
     stays = record {
-      marks-long = v .stays .marks-long ∙ begun .long;
+      marks-long = v .stays .marks-long ∙ starts .marks-long;
       forms-long = v .stays .forms-long;
-      work-long = v .stays .work-long;
-      marks-rest = λ q i. v .stays .marks-rest q i ∙ begun .rest q i;
+      work-long = v .stays .work-long ∙ starts .work-long;
+      marks-rest = λ q i. v .stays .marks-rest q i ∙ starts .rest q i;
       forms-rest = v .stays .forms-rest;
     }
 
@@ -211,6 +217,6 @@ module _ (g : Given) (work : List ℕ) (old : HalfLists) (told : Bool)
         work-long = long;
         refused = λ i. never (fitting-is g (length work) old ∙ sym tells ∙ e) i;
         answered = λ i f. let z : _≡_ {A = ℕ} 0 1 = cc in omega arith;
-        decoded = λ i own good. let z = v .shows own good in (ap Decoded (z .0), z .1);
-        kept = λ i own good ended. v .kept own good ended;
+        decoded = λ i obey. let z = v .shows obey in (ap Decoded (z .0), z .1);
+        kept = λ i obey ended. v .kept obey ended;
       }

@@ -8,14 +8,15 @@ use native.Mathlib.Omega.{arith}
 use lib.Dec.{eqb, ltb}
 use lib.ListN.{getD}
 use borrow.Author.Tests.{lt-ltb}
-use Rattle.binary.specs.Meaning.{Qubits, Check, All, fixed?}
+use Rattle.binary.specs.Meaning.{Check}
 use Rattle.binary.specs.Words.{listed}
 use Rattle.code.specs.Lists.{rowAt, rowsFrom}
-use Rattle.code.specs.Tests.{Ascending}
-use Rattle.machine.specs.Machine.{isOpen, closed?, takeUpAll, blank, stage, startMark, start, degree, most, run, keepIf, readings, checks, decoded}
-use Rattle.kept.specs.Rows.{RowLists, checksFrom, rowChecks}
+use Rattle.machine.specs.Machine.{isOpen, closed?, takeUpAll, blank, stage, start, degree, most, run, keepIf, readings, checks, decoded}
+use Rattle.scans.specs.Rows.{RowLists, checksFrom, rowChecks}
+use Rattle.guessing.specs.Guessing.{degreeOf}
+use Rattle.starting.specs.Starting.{fixedIn, Begun}
 use Rattle.turns.specs.Runs.{endOf}
-use Rattle.halves.specs.Starts.{Started, halfIn}
+use Rattle.halves.specs.Starts.{halfIn}
 
 ----------------------------------------------------------------------
 -- The half's checks
@@ -43,15 +44,10 @@ checks-are n c lost other others =
 ----------------------------------------------------------------------
 -- From the start to the end
 
-pub decoded-is : (n : ℕ) (c : RowLists) (lost : List ℕ) (other others budget limit : ℕ) (marks marks′ : List ℕ)
-    → Started n (c .flat) (c .ends) lost other others marks marks′ → All (Ascending n) (rowsFrom (c .flat) (c .ends) other others)
-    → decoded (halfIn n c lost other others) budget limit ≡ endOf n c budget limit marks′
+pub decoded-is : (n : ℕ) (c : RowLists) (lost : List ℕ) (other others budget limit : ℕ) (marks forms work : List ℕ) → Begun n c lost other others work marks
+    → decoded (halfIn n c lost other others) budget limit ≡ endOf n c budget limit (record { marks = marks; forms = forms; work = work })
 unfolding decoded start
-decoded-is n c lost other others budget limit marks marks′ begun good =
-    ap (λ (cs : List Check). run cs n (most (degree cs) n) budget limit (suc limit)
-    (stage (startMark (listed n lost) fix) 0 (takeUpAll (closed? (isOpen (startMark (listed n lost) fix))) cs blank))) (checks-are n c lost other others)
-    ∙ ap (λ (m : ℕ → ℕ). run (rowChecks c) n (most (degree (rowChecks c)) n) budget limit (suc limit)
-    (stage m 0 (takeUpAll (closed? (isOpen m)) (rowChecks c) blank))) (sym (begun .marked good))
-  where
-    fix : Qubits
-    fix = fixed? n (rowsFrom (c .flat) (c .ends) other others) (listed n lost)
+decoded-is n c lost other others budget limit marks forms work begun =
+    ap (λ (cs : List Check). run cs n (most (degree cs) n) budget limit (suc limit) (start cs (listed n lost) (fixedIn n c lost other others))) (checks-are n c lost other others)
+    ∙ sym (begun .ruled budget limit)
+    ∙ ap (λ (m : ℕ → ℕ). run (rowChecks c) n (most (degreeOf work) n) budget limit (suc limit) (stage m 0 (takeUpAll (closed? (isOpen m)) (rowChecks c) blank))) (sym (begun .marked))

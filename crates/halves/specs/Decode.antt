@@ -9,17 +9,15 @@ use mathlib.Core.List.{List}
 use Prim.Native.Nat.{ℕ, _+_}
 use lib.Dec.{leb}
 use lib.ListN.{length}
-use Rattle.binary.specs.Meaning.{All}
-use Rattle.code.specs.Lists.{rowsFrom}
-use Rattle.code.specs.Tests.{Ascending}
 use Rattle.halves.specs.declared.HalfAnswer.{HalfAnswer}
 use Rattle.halves.specs.declared.HalfAnswer.the-variants.{Refused, Decoded}
-use Rattle.kept.specs.Rows.{RowLists}
+use Rattle.scans.specs.Rows.{RowLists}
 use Rattle.kept.specs.Kept.{Kept}
 use Rattle.machine.specs.Machine.{isOpen}
 use Rattle.machine.specs.Report.{none?, outcome}
 use Rattle.machine.specs.Lists.{view, HalfLists, Past, Shows, SameLengths}
 use Rattle.halves.specs.Lists.{halfOf}
+use Rattle.halves.specs.Starts.{RowsObey}
 
 -- What a half is decoded from: n, the lists of code and shot, its own rows and the other kind's (a first row and a count each), the budget
 -- and the turn limit.
@@ -46,21 +44,18 @@ fitting g work l =
     && leb 10240 work && leb (g .n) (length (g .lost)) && leb (g .first + g .count) (length (g .lit))
     && leb (g .n) (length (l .marks)) && leb (g .n) (length (l .forms)) && leb (g .n) (length (l .correction))
 
--- For every input the lists keep their lengths and what is past n. Where sizes and lists fit, the half is decoded: of rows that are strictly ascending and below n, the answer and the lists are what the machine
--- makes of code, shot, budget and limit, and at any end but none the work list holds what is kept of the half's own rows, a fresh count over the marks (document 02, request b). Otherwise nothing is written.
+-- For every input the lists keep their lengths and what is past n. Where sizes and lists fit, the half is decoded: of rows that are strictly ascending and
+-- below n, and commute, as those of an accepted code are, the answer and the lists are what the machine makes of code, shot, budget and limit, and at any end but
+-- none the work list holds what is kept of the half's own rows, a fresh count over the marks (document 02, request b). Otherwise nothing is written.
 pub record Decodes (g : Given) (work work′ : List ℕ) (old new : HalfLists) (r : HalfAnswer) : Type 0 where
   pub lengths : SameLengths old new
   pub past : Past (g .n) old new
   pub work-long : length work′ ≡ length work
   pub refused : fitting g (length work) old ≡ false → (r ≡ Refused) × (new ≡ old) × (work′ ≡ work)
   pub answered : fitting g (length work) old ≡ true → r ≡ Refused → ⊥
-  pub decoded : fitting g (length work) old ≡ true
-      → All (Ascending (g .n)) (rowsFrom (g .flat) (g .ends) (g .first) (g .count))
-      → All (Ascending (g .n)) (rowsFrom (g .flat) (g .ends) (g .other) (g .others))
+  pub decoded : fitting g (length work) old ≡ true → RowsObey (g .n) (ownRows g) (g .other) (g .others)
       → let s = outcome (halfOf (g .n) (g .flat) (g .ends) (g .lost) (g .lit) (g .first) (g .count) (g .other) (g .others)) (g .budget) (g .limit) in
       (r ≡ Decoded (s .report)) × Shows (g .n) s old new
-  pub kept : fitting g (length work) old ≡ true
-      → All (Ascending (g .n)) (rowsFrom (g .flat) (g .ends) (g .first) (g .count))
-      → All (Ascending (g .n)) (rowsFrom (g .flat) (g .ends) (g .other) (g .others))
+  pub kept : fitting g (length work) old ≡ true → RowsObey (g .n) (ownRows g) (g .other) (g .others)
       → none? (outcome (halfOf (g .n) (g .flat) (g .ends) (g .lost) (g .lit) (g .first) (g .count) (g .other) (g .others)) (g .budget) (g .limit) .report .word) ≡ false
       → Kept (isOpen (view (g .n) (new .marks))) (ownRows g) work′

@@ -1,4 +1,3 @@
 pub mod Lists
-pub mod Fills
-pub mod Decode
 pub mod Starts
+pub mod Decode

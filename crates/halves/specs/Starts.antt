@@ -1,42 +1,28 @@
--- What the decode of a half does to the lists, beside its turns.
---   PackedFrom  the work list holds the other kind's rows, packed
---   Started     the marks are the start's
+-- What the decode of a half does to the lists, beside its start and its turns.
 --   halfIn      the half whose rows and readings, lost qubits and other kind's rows the lists hold
 --   Finished    what the half leaves in its lists, by its word
 --   fits?       whether sizes and lengths are such that the half is decoded
+--   RowsObey    the rows obey document 01
 --   HalfDone    the whole decode of a half
 use mathlib.Core.Path.{_≡_}
 use mathlib.Core.Bool.{Bool, false, _&&_, cond}
 use mathlib.Core.List.{List}
-use Prim.Native.Nat.{ℕ, _+_, _%_, _≤_}
+use Prim.Native.Nat.{ℕ, _+_, _%_}
 use lib.Dec.{leb}
 use lib.ListN.{length, getD}
-use Rattle.binary.specs.Meaning.{All, fixed?}
-use Rattle.binary.specs.Words.{listed}
-use Rattle.packing.specs.Packed.{wordsFor, Packed}
+use Rattle.binary.specs.Meaning.{All, Commute}
 use Rattle.code.specs.Lists.{rowsFrom}
 use Rattle.code.specs.Tests.{Ascending}
-use Rattle.kept.specs.Rows.{RowLists}
+use Rattle.scans.specs.Rows.{RowLists, GoodRows}
 use Rattle.kept.specs.Kept.{Kept}
 use Rattle.machine.specs.declared.Word.{Word}
 use Rattle.machine.specs.declared.HalfReport.{HalfReport}
-use Rattle.machine.specs.Machine.{isOpen, startMark, Half}
+use Rattle.machine.specs.Machine.{isOpen, Half}
 use Rattle.machine.specs.Words.{finished?}
 use Rattle.machine.specs.Report.{none?, outcome}
 use Rattle.machine.specs.Lists.{view, HalfLists, SameLengths, Past, Shows}
 use Rattle.halves.specs.Lists.{halfOf}
-use Rattle.halves.specs.Fills.{Filled}
-
-pub record PackedFrom (n : ℕ) (flat ends : List ℕ) (other others : ℕ) (work work′ : List ℕ) : Type 0 where
-  pub long : length work′ ≡ length work
-  pub packed : Packed n (wordsFor n) (rowsFrom flat ends other others) work′
-
--- Of rows that are strictly ascending and below n, the fixed qubits are marked.
-pub record Started (n : ℕ) (flat ends lost : List ℕ) (other others : ℕ) (marks marks′ : List ℕ) : Type 0 where
-  pub long : length marks′ ≡ length marks
-  pub rest : (q : ℕ) → n ≤ q → getD marks′ q 0 ≡ getD marks q 0
-  pub marked : All (Ascending n) (rowsFrom flat ends other others)
-      → view n marks′ ≡ startMark (listed n lost) (fixed? n (rowsFrom flat ends other others) (listed n lost))
+use Rattle.starting.specs.Fills.{Filled}
 
 -- The half whose rows and readings, lost qubits and other kind's rows the lists hold.
 abbrev pub halfIn : ℕ → RowLists → List ℕ → ℕ → ℕ → Half
@@ -60,11 +46,15 @@ fits? n lost lit first count other others budget work marks forms correction =
     leb n 1024 && leb count 512 && leb others 512 && leb first 512 && leb other 512 && leb budget 63
     && leb 10240 work && leb n lost && leb (first + count) lit && leb n marks && leb n forms && leb n correction
 
+-- The half's own rows and the other kind's are strictly ascending and below n, and commute.
+pub record RowsObey (n : ℕ) (c : RowLists) (other others : ℕ) : Type 0 where
+  pub own : GoodRows n c
+  pub other-kind : All (Ascending n) (rowsFrom (c .flat) (c .ends) other others)
+  pub commute : Commute (rowsFrom (c .flat) (c .ends) (c .first) (c .count)) (rowsFrom (c .flat) (c .ends) other others)
+
 -- With what the work list holds in the end.
 pub record HalfDone (n : ℕ) (c : RowLists) (lost : List ℕ) (other others budget limit : ℕ) (work : List ℕ) (old new : HalfLists) (r : HalfReport) : Type 0 where
   pub lengths : SameLengths old new
   pub past : Past n old new
-  pub shows : All (Ascending n) (rowsFrom (c .flat) (c .ends) (c .first) (c .count)) → All (Ascending n) (rowsFrom (c .flat) (c .ends) other others)
-      → let s = outcome (halfIn n c lost other others) budget limit in (r ≡ s .report) × Shows n s old new
-  pub kept : All (Ascending n) (rowsFrom (c .flat) (c .ends) (c .first) (c .count)) → All (Ascending n) (rowsFrom (c .flat) (c .ends) other others)
-      → none? (outcome (halfIn n c lost other others) budget limit .report .word) ≡ false → Kept (isOpen (view n (new .marks))) c work
+  pub shows : RowsObey n c other others → let s = outcome (halfIn n c lost other others) budget limit in (r ≡ s .report) × Shows n s old new
+  pub kept : RowsObey n c other others → none? (outcome (halfIn n c lost other others) budget limit .report .word) ≡ false → Kept (isOpen (view n (new .marks))) c work
