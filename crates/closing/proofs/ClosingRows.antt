@@ -217,8 +217,14 @@ pub closed-as : (n : ℕ) (c : RowLists) (p live : ℕ) (forms forms′ work wor
     → ClosingRows n c p live forms forms′ work work′ t
 unfolding fits?
 closed-as n c p live forms forms′ work work′ t f v =
-    v .closes (rw (lt-ltb p 1024 (f .small), le-leb (c .count) 512 (f .few), le-leb (c .first + c .count) 1024 (f .last), le-leb n (length forms) (f .forms-long),
-    le-leb 10240 (length work) (f .work-long), le-leb (c .first + c .count) (length (c .lit)) (f .lit)))
+    v .closes (rw (
+      lt-ltb p 1024 (f .small),
+      le-leb (c .count) 512 (f .few),
+      le-leb (c .first + c .count) 1024 (f .last),
+      le-leb n (length forms) (f .forms-long),
+      le-leb 10240 (length work) (f .work-long),
+      le-leb (c .first + c .count) (length (c .lit)) (f .lit),
+    ))
 
 module _ (n : ℕ) (c : RowLists) (p live : ℕ) (forms work : List ℕ) (told : Bool) (tells : told ≡ fitting n c p work forms) where
   does-fit : not told ≡ false → fitting n c p work forms ≡ true

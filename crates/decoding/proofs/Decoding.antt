@@ -32,8 +32,8 @@ use Rattle.readout.proofs.Shots.{left-begun, holds-opened}
 use Rattle.decodable.specs.declared.Test.{Test}
 use Rattle.decodable.specs.declared.Test.the-variants.{Passed, Failed}
 use Rattle.decodable.specs.Tests.{lacking?, testOf}
-use Rattle.decoding.specs.Decoding.{givenOf, shownOf, BothFit, GoodRows, Reports}
-use Rattle.decoding.proofs.Halves.{both-fit, shown-held, good-rows}
+use Rattle.decoding.specs.Decoding.{givenOf, shownOf, BothFit, Obeying, Reports}
+use Rattle.decoding.proofs.Halves.{both-fit, shown-held, obeying}
 
 ----------------------------------------------------------------------
 -- The tests
@@ -180,7 +180,8 @@ module _ (budget limit : ℕ) (st : State) (flat ends shot shot′ work : List �
       done : (rep ≡ record { x = outcome (half X c s) budget limit .report; z = outcome (half Z c s) budget limit .report })
           × Shows (c .n) (outcome (half X c s) budget limit) (six .x) (six′ .x) × Shows (c .n) (outcome (half Z c s) budget limit) (six .z) (six′ .z)
       done =
-          let good : (q : Pauli) → GoodRows (givenOf q (sizesOf c) (new .lists) budget limit) = λ q. good-rows c s (new .lists) (v .flat) (left .held) budget limit q (v .good-xs .ascending) (v .good-zs .ascending) in
+          let good : (q : Pauli) → Obeying (givenOf q (sizesOf c) (new .lists) budget limit)
+          = λ q. obeying c s (new .lists) (v .flat) (left .held) budget limit q (v .good-xs .ascending) (v .good-zs .ascending) (v .commute) in
           let t = (subst (λ (z : Sizes). Reports z budget limit (new .lists) work work′ six six′ rep) (v .sizes) d) .decoded (good X) (good Z) in (
             t .0 ∙ ap₂ (λ (x z : Shown). record { x = x .report; z = z .report }) (same X) (same Z),
             subst (λ (u : Shown). Shows (c .n) u (six .x) (six′ .x)) (same X) (t .1),

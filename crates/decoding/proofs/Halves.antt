@@ -9,12 +9,14 @@ use lib.Dec.{eqb, ltb}
 use lib.ListN.{length, getD, take, drop, length-drop}
 use lib.Seq.{getD-drop, take-all}
 use borrow.Author.Tests.{le-leb}
-use Rattle.binary.specs.Meaning.{Row, All}
+use Rattle.binary.specs.Meaning.{Row, All, Commute, commute?}
 use Rattle.binary.specs.Words.{listed}
 use Rattle.binary.proofs.Bits.{and-in}
+use Rattle.binary.proofs.Tests.{commute-test}
 use Rattle.code.specs.Lists.{rowsFrom, rowsBetween, Flat}
 use Rattle.code.specs.Tests.{Ascending}
 use Rattle.code.proofs.Flat.{flat-first, flat-second}
+use Rattle.commuting.proofs.Sharing.{commute-symmetric}
 use Rattle.machine.specs.declared.HalfReport.{HalfReport}
 use Rattle.machine.specs.Machine.{Half}
 use Rattle.machine.specs.Report.{outcome}
@@ -22,6 +24,8 @@ use Rattle.machine.specs.Lists.{HalfLists}
 use Rattle.halves.specs.declared.HalfAnswer.{HalfAnswer}
 use Rattle.halves.specs.declared.HalfAnswer.the-variants.{Refused, Decoded}
 use Rattle.halves.specs.Lists.{halfOf}
+use Rattle.halves.specs.Starts.{RowsObey}
+use Rattle.scans.specs.Rows.{RowLists}
 use Rattle.halves.specs.Decode.{Given, fitting, Decodes}
 use Rattle.records.specs.declared.Sizes.{Sizes}
 use Rattle.records.specs.declared.Report.{Report}
@@ -29,7 +33,7 @@ use Rattle.records.specs.Records.{Pauli, X, Z, lost, lit, unread}
 use Rattle.records.specs.History.{Code, sizesOf, Shot, half}
 use Rattle.records.specs.Lists.{Lists, Six, marks, HeldShot}
 use Rattle.records.proofs.Range.{InRange, LongLists, LongHalf}
-use Rattle.decoding.specs.Decoding.{readingsOf, givenBy, givenOf, shownOf, BothFit, GoodRows, Reports}
+use Rattle.decoding.specs.Decoding.{readingsOf, givenBy, givenOf, shownOf, BothFit, Obeying, Reports}
 
 ----------------------------------------------------------------------
 -- Both decoded
@@ -61,7 +65,7 @@ module _ (z : Sizes) (budget limit : ℕ) (l : Lists) (readings : List ℕ) (tol
           z-long = f .lengths;
           x-past = d .past;
           z-past = f .past;
-          decoded = λ m n. let u = d .decoded (fit .x) (m .own) (m .others) in let v = f .decoded z-fits (n .own) (n .others) in (cc, u .1, v .1);
+          decoded = λ m n. let u = d .decoded (fit .x) m in let v = f .decoded z-fits n in (cc, u .1, v .1);
         }
 
 ----------------------------------------------------------------------
@@ -111,6 +115,11 @@ unfolding readingsOf
 readings-marks e count first shot =
     fun-ext (λ i. ap (λ (k : ℕ). ltb i count && eqb k e) (getD-drop 1024 shot (first + i) 0 ∙ ap (λ (k : ℕ). getD shot k 0) (sym (add-assoc 1024 first i))))
 
+-- Rows in the lists obey where those that they hold do.
+rows-obey : (n : ℕ) {c : RowLists} {other others : ℕ} {own rest : List Row} → rowsFrom (c .flat) (c .ends) (c .first) (c .count) ≡ own → rowsFrom (c .flat) (c .ends) other others ≡ rest
+    → All (Ascending n) own → All (Ascending n) rest → Commute own rest → RowsObey n c other others
+rows-obey n a b d e even = record { own = rw a d; other-kind = rw b e; commute = rw (a, b) even }
+
 -- The halves of a code and shot that lists hold.
 module _ (c : Code) (s : Shot) (l : Lists) (f : Flat (c .xs ++ c .zs) (l .flat) (l .ends)) (v : HeldShot c s (l .shot)) (budget limit : ℕ) where
   x-rows : rowsFrom (l .flat) (l .ends) 0 (length (c .xs)) ≡ c .xs
@@ -136,6 +145,8 @@ module _ (c : Code) (s : Shot) (l : Lists) (f : Flat (c .xs ++ c .zs) (l .flat) 
       (readings-marks 1 (length (c .xs)) 0 (l .shot) ∙ sym (v .sets (lit X)))
       (readings-marks 2 (length (c .xs)) 0 (l .shot) ∙ sym (v .sets (unread X))))
 
-  pub good-rows : (p : Pauli) → All (Ascending (c .n)) (c .xs) → All (Ascending (c .n)) (c .zs) → GoodRows (givenOf p (sizesOf c) l budget limit)
-  good-rows X xs zs = record { own = subst (All (Ascending (c .n))) (sym z-rows) zs; others = subst (All (Ascending (c .n))) (sym x-rows) xs }
-  good-rows Z xs zs = record { own = subst (All (Ascending (c .n))) (sym x-rows) xs; others = subst (All (Ascending (c .n))) (sym z-rows) zs }
+  pub obeying : (p : Pauli) → All (Ascending (c .n)) (c .xs) → All (Ascending (c .n)) (c .zs) → commute? (c .zs) (c .xs) ≡ true → Obeying (givenOf p (sizesOf c) l budget limit)
+  obeying X xs zs even =
+      rows-obey (c .n) z-rows x-rows zs xs (commute-test (c .zs) (c .xs) .1 even)
+  obeying Z xs zs even =
+      rows-obey (c .n) x-rows z-rows xs zs (commute-symmetric (c .n) (c .xs) (c .zs) xs zs .0 (commute-test (c .zs) (c .xs) .1 even))

@@ -8,13 +8,11 @@ use mathlib.Core.Bool.{true}
 use mathlib.Core.List.{List}
 use Prim.Native.Nat.{ℕ}
 use lib.ListN.{length, drop}
-use Rattle.binary.specs.Meaning.{All}
-use Rattle.code.specs.Lists.{rowsFrom}
-use Rattle.code.specs.Tests.{Ascending}
 use Rattle.machine.specs.Report.{Shown, outcome}
 use Rattle.machine.specs.Lists.{HalfLists, Past, Shows, SameLengths}
 use Rattle.halves.specs.Lists.{halfOf}
-use Rattle.halves.specs.Decode.{Given, fitting}
+use Rattle.halves.specs.Starts.{RowsObey}
+use Rattle.halves.specs.Decode.{Given, ownRows, fitting}
 use Rattle.records.specs.declared.Sizes.{Sizes}
 use Rattle.records.specs.declared.Report.{Report}
 use Rattle.records.specs.Records.{Pauli, X, Z}
@@ -66,10 +64,9 @@ pub record BothFit (sizes : Sizes) (budget limit : ℕ) (l : Lists) (work : ℕ)
   pub x : fitting (givenOf X sizes l budget limit) work (six .x) ≡ true
   pub z : fitting (givenOf Z sizes l budget limit) work (six .z) ≡ true
 
--- The half's rows and the other kind's are strictly ascending and below n.
-pub record GoodRows (g : Given) : Type 0 where
-  pub own : All (Ascending (g .n)) (rowsFrom (g .flat) (g .ends) (g .first) (g .count))
-  pub others : All (Ascending (g .n)) (rowsFrom (g .flat) (g .ends) (g .other) (g .others))
+-- The half's rows and the other kind's obey document 01.
+abbrev pub Obeying : Given → Type 0
+Obeying g = RowsObey (g .n) (ownRows g) (g .other) (g .others)
 
 pub record Reports (z : Sizes) (budget limit : ℕ) (l : Lists) (work work′ : List ℕ) (old new : Six) (r : Report) : Type 0 where
   pub work-long : length work′ ≡ length work
@@ -77,7 +74,7 @@ pub record Reports (z : Sizes) (budget limit : ℕ) (l : Lists) (work work′ : 
   pub z-long : SameLengths (old .z) (new .z)
   pub x-past : Past (z .n) (old .x) (new .x)
   pub z-past : Past (z .n) (old .z) (new .z)
-  pub decoded : GoodRows (givenOf X z l budget limit) → GoodRows (givenOf Z z l budget limit)
+  pub decoded : Obeying (givenOf X z l budget limit) → Obeying (givenOf Z z l budget limit)
       → (r ≡ record { x = shownOf (givenOf X z l budget limit) .report; z = shownOf (givenOf Z z l budget limit) .report })
       × Shows (z .n) (shownOf (givenOf X z l budget limit)) (old .x) (new .x)
       × Shows (z .n) (shownOf (givenOf Z z l budget limit)) (old .z) (new .z)

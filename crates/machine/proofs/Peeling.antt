@@ -120,10 +120,10 @@ module _ (cs : List Check) (n : ℕ) (choose choose′ : Qubits → Option ℕ) 
           never (below-in n _ (λ q l. not-in (sym (ap (λ (o : Qubits). o q) stays) ∙ a q l))) some-open
       look (some d) h =
           let next : Away cs n k (isOpen (put (d .0) 2 (st .mark))) =
-              rw (open-put (d .0) 2 (st .mark) refl) (subst (λ (x : Option (ℕ × Check)). Away cs n k (peelStep x (isOpen (st .mark)))) h a) in
+          rw (open-put (d .0) 2 (st .mark) refl) (subst (λ (x : Option (ℕ × Check)). Away cs n k (peelStep x (isOpen (st .mark)))) h a) in
           let fs : Forms = record { form = put (d .0) (side (st .forms) (d .1)) (st .forms .form); live = st .forms .live } in
           let at : AwayAt k (peel cs st (d .0) (d .1)) =
-              after k (d .0) 2 (suc (st .turns)) (st .mark) (takeUpAll (closing (st .mark) (put (d .0) 2 (st .mark))) cs fs) next in
+          after k (d .0) 2 (suc (st .turns)) (st .mark) (takeUpAll (closing (st .mark) (put (d .0) 2 (st .mark))) cs fs) next in
           (rw h, (k, subst (λ (x : Option (ℕ × Check)). AwayAt k (turnBy cs n choose st x (choose (isOpen (st .mark))))) (sym h) at))
 
   pub rule-unasked : (m : ℕ) (s : Stage) (k : ℕ) → AwayAt k s → run cs n choose budget limit m s ≡ run cs n choose′ budget limit m s

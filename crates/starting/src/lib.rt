@@ -90,7 +90,15 @@ fn search_fixed(
 }
 
 // Whether the sizes are document 01's and the lists long enough.
-fn fits(n: u16, lost: &[u8], lit: &[u8], own: Rows, others: Rows, work: &[u64], marks: &[u8]) -> bool
+fn fits(
+    n: u16,
+    lost: &[u8],
+    lit: &[u8],
+    own: Rows,
+    others: Rows,
+    work: &[u64],
+    marks: &[u8],
+) -> bool
     ensures { λ r. ⌜ r ≡ fits? n (length (now (lost .entry))) (length (now (lit .entry))) (own .first .0) (own .count) (others .first .0) (others .count) (length (now (work .entry))) (length (now (marks .entry))) ⌝ }
 {
     let size = n as usize;
