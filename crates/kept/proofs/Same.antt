@@ -38,14 +38,15 @@ tallied-by o c work k =
       total = k .total ∙ sym (tally-same (c .count) (dangles? o c) (single? work) (λ i h. ap (λ (x : ℕ). eqb x 1) (k .counts i h)));
     }
 
--- A list that has the same elements below 9216.
-pub kept-same : (o : Qubits) (c : RowLists) (work work′ : List ℕ) → c .count ≤ 512 → ((k : ℕ) → k < 9216 → getD work′ k 0 ≡ getD work k 0) → Kept o c work → Kept o c work′
+-- A list that has the same set of dangling rows, total and numbers.
+pub kept-same : (o : Qubits) (c : RowLists) (work work′ : List ℕ) → c .count ≤ 512 → ((j : ℕ) → j < 9 → getD work′ (8192 + j) 0 ≡ getD work (8192 + j) 0)
+    → ((j : ℕ) → j < c .count → getD work′ (8704 + j) 0 ≡ getD work (8704 + j) 0) → Kept o c work → Kept o c work′
 unfolding inSet
-kept-same o c work work′ few same k =
+kept-same o c work work′ few set counts k =
     record {
-      counts = λ i h. same (8704 + i) (omega arith) ∙ k .counts i h;
-      dangling = λ i h. ap (λ (x : ℕ). Words.bit x (i % 64)) (same (8 * 1024 + i / 64) (omega arith)) ∙ k .dangling i h;
-      total = same 8200 (omega arith) ∙ k .total;
+      counts = λ i h. counts i h ∙ k .counts i h;
+      dangling = λ i h. ap (λ (x : ℕ). Words.bit x (i % 64)) (set (i / 64) (omega arith)) ∙ k .dangling i h;
+      total = set 8 (omega arith) ∙ k .total;
     }
 
 -- One that has the same below 8192, and qubits that were open before.

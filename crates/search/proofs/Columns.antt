@@ -3,7 +3,7 @@ use mathlib.Core.Path.{_≡_, refl, sym, ap, ap₂, _∙_}
 use mathlib.Core.Bool.{Bool, true, false, _&&_}
 use mathlib.Core.Logic.{_⊎_, inl, inr, ⊎-elim}
 use mathlib.Core.List.{List}
-use Prim.Native.Nat.{ℕ, _+_, _*_, _≤_, _<_}
+use Prim.Native.Nat.{ℕ, zero, suc, _+_, _-_, _*_, _≤_, _<_}
 use native.Mathlib.Nat.{le-refl}
 use native.Mathlib.Decide.{ℕ-discrete}
 use native.Mathlib.Omega.{arith}
@@ -53,15 +53,28 @@ module _ (w i j q : ℕ) (m₀ m m′ : List ℕ) (room : q < 64 * w) (after : i
       old : (c : ℕ) → c < 64 * w → cell m w j c ≡ cell m₀ w j c
       old c h = s .kept j c (inr (le-refl j)) h
 
-pub later-skipped : (w i j q : ℕ) (m₀ m : List ℕ) → q < 64 * w → i < j → Later w i j q m₀ m
-    → (r : Bool) → r ≡ cell m w j q → r ≡ false → Later w i (j + 1) q m₀ m
-later-skipped w i j q m₀ m room after s r e z =
-    later-more w i j q m₀ m m room after s (λ c h. rw (← e, z) (sym (⊕-false (cell m w j c)))) (λ l c n h. refl)
+later-skipped : (w i j q : ℕ) (m₀ m : List ℕ) → q < 64 * w → i < j → Later w i j q m₀ m → cell m w j q ≡ false → Later w i (j + 1) q m₀ m
+later-skipped w i j q m₀ m room after s z =
+    later-more w i j q m₀ m m room after s (λ c h. rw z (sym (⊕-false (cell m w j c)))) (λ l c n h. refl)
+
+-- Rows without the column are passed over.
+pub later-passed : (w i j d q : ℕ) (m₀ m : List ℕ) → q < 64 * w → i < j → Later w i j q m₀ m → ((l : ℕ) → j ≤ l → l < j + d → cell m w l q ≡ false) → Later w i (j + d) q m₀ m
+later-passed w i j zero q m₀ m room after s f = let e : j + 0 ≡ j = omega arith in rw e s
+later-passed w i j (suc d) q m₀ m room after s f =
+    let e : j + 1 + d ≡ j + suc d = omega arith in
+    rw (← e) (later-passed w i (j + 1) d q m₀ m room (omega arith) (later-skipped w i j q m₀ m room after s (f j (omega arith) (omega arith))) (λ l a b. f l (omega arith) (omega arith)))
+
+-- Up to the next row with the column.
+pub later-to : (w i j rows q : ℕ) (m₀ m : List ℕ) (r : ℕ) → q < 64 * w → i < j → Later w i j q m₀ m → First w j rows q m r → Later w i r q m₀ m
+later-to w i j rows q m₀ m r room after s f =
+    let g = f .start in
+    let e : j + (r - j) ≡ r = omega arith in
+    rw (← e) (later-passed w i j (r - j) q m₀ m room after s (λ l a b. f .before l a (omega arith)))
 
 pub later-added : (w i j q : ℕ) (m₀ m m′ : List ℕ) → q < 64 * w → i < j → Later w i j q m₀ m
-    → (r : Bool) → r ≡ cell m w j q → r ≡ true → Run (joinedBy true) (i * w) (j * w) w m m′ → Later w i (j + 1) q m₀ m′
-later-added w i j q m₀ m m′ room after s r e o a =
-    later-more w i j q m₀ m m′ room after s (λ c h. rw (← e, o) (run-cells (joinedBy true) _⊕_ bit-xor w i j m m′ a c h)) (other-cells w j m m′ (a .kept))
+    → cell m w j q ≡ true → Run (joinedBy true) (i * w) (j * w) w m m′ → Later w i (j + 1) q m₀ m′
+later-added w i j q m₀ m m′ room after s o a =
+    later-more w i j q m₀ m m′ room after s (λ c h. rw o (run-cells (joinedBy true) _⊕_ bit-xor w i j m m′ a c h)) (other-cells w j m m′ (a .kept))
 
 ----------------------------------------------------------------------
 -- The column cleared

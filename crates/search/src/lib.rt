@@ -62,14 +62,10 @@ fn add_later(m: &mut [u64], w: usize, i: usize, rows: usize, q: usize)
     requires { ⌜ (i < rows) × ColumnIn w i rows q (now m) ⌝ }
     ensures { λ _. ⌜ Later w i rows q (now (m .entry)) (now (m .exit)) ⌝ }
 {
-    let k = q / 64;
-    let b = q % 64;
-    let mut j = i + 1;
+    let mut j = find_row(m, w, i + 1, rows, q);
     while j < rows {
-        if has_bit(m, w, j, k, b) {
-            join_row(m, w, i, j, true);
-        }
-        j += 1;
+        join_row(m, w, i, j, true);
+        j = find_row(m, w, j + 1, rows, q);
     }
 }
 

@@ -1,19 +1,18 @@
 -- The two ways of a start: the lost qubits peel away, or the search is made. Assumes nothing.
 use mathlib.Core.Path.{_≡_, refl, sym, ap, _∙_, fun-ext, subst}
 use mathlib.Core.Bool.{Bool, true, false, not, _&&_, cond}
-use mathlib.Core.Logic.{inl, inr, ⊎-elim}
+use mathlib.Core.Logic.{_⊎_, inl, inr}
 use mathlib.Core.Option.{Option}
 use mathlib.Core.List.{List}
-use Prim.Native.Nat.{ℕ, zero, suc, _+_, _-_, _≤_, _<_}
+use Prim.Native.Nat.{ℕ, zero, suc, _+_, _≤_, _<_}
 use native.Mathlib.Omega.{arith}
 use lib.Dec.{leb}
 use lib.ListN.{length, getD}
-use borrow.Author.Tests.{leb-true, le-leb}
+use borrow.Author.Tests.{leb-true, le-leb, lt-leb}
 use Rattle.binary.specs.Meaning.{Qubits, Row, Check, All, Even, Commute, fixed?}
 use Rattle.binary.specs.Words.{listed}
 use Rattle.binary.specs.Classes.{Commuting}
 use Rattle.binary.proofs.Bits.{bit, never, and-out, not-out}
-use Rattle.binary.proofs.WordBits.{order}
 use Rattle.lists.specs.Copied.{apart?, Copied}
 use Rattle.code.specs.Lists.{rowAt, rowsFrom}
 use Rattle.code.specs.Tests.{Ascending}
@@ -36,7 +35,7 @@ use Rattle.guessing.specs.Guessing.{degreeOf, countable?, Counts}
 use Rattle.guessing.proofs.Choices.{counted-rule}
 use Rattle.guessing.proofs.Room.{counts-long}
 use Rattle.starting.specs.Fills.{Filled, openMark}
-use Rattle.starting.specs.Starting.{PackedFrom, fixedIn, Keeps, Saved, PeeledFirst, Searched, Begun, fits?, fitting, Starts}
+use Rattle.starting.specs.Starting.{PackedFrom, fixedIn, Keeps, Saves, Restores, Saved, PeeledFirst, Searched, Begun, fits?, fitting, Starts}
 use Rattle.starting.proofs.Marks.{listed-below, open-marks, open-lost, long-enough, fixed-marks}
 
 ----------------------------------------------------------------------
@@ -52,13 +51,18 @@ commuting-checks flat ends lit others r (suc count) e = go (read? lit r) (commut
     go false v = v
 
 -- A list that keeps the same.
-keeps-same : (n : ℕ) (c : RowLists) (work work′ marks : List ℕ) → n ≤ 1024 → c .count ≤ 512 → ((k : ℕ) → k < 9216 → getD work′ k 0 ≡ getD work k 0) → Keeps n c work marks → Keeps n c work′ marks
-keeps-same n c work work′ marks size few same k =
+keeps-same : (n : ℕ) (c : RowLists) (work work′ marks : List ℕ) → n ≤ 1024 → c .count ≤ 512 → ((k : ℕ) → k < 8192 → getD work′ k 0 ≡ getD work k 0)
+    → ((j : ℕ) → j < 9 → getD work′ (8192 + j) 0 ≡ getD work (8192 + j) 0) → ((j : ℕ) → j < c .count → getD work′ (8704 + j) 0 ≡ getD work (8704 + j) 0)
+    → Keeps n c work marks → Keeps n c work′ marks
+keeps-same n c work work′ marks size few same set counts k =
     record {
-      kept = kept-same (isOpen (view n marks)) c work work′ few same (k .kept);
-      on = rows-same n (isOpen (view n marks)) (isOpen (view n marks)) c work work′ few (λ i h. same i (omega arith))
-          (λ q e. let l = open-below n marks q e in (e, omega arith)) (k .on);
+      kept = kept-same (isOpen (view n marks)) c work work′ few set counts (k .kept);
+      on = rows-same n (isOpen (view n marks)) (isOpen (view n marks)) c work work′ few same (λ q e. let l = open-below n marks q e in (e, omega arith)) (k .on);
     }
+
+keeps-below : (n : ℕ) (c : RowLists) (work work′ marks : List ℕ) → n ≤ 1024 → c .count ≤ 512 → ((k : ℕ) → k < 9216 → getD work′ k 0 ≡ getD work k 0) → Keeps n c work marks → Keeps n c work′ marks
+keeps-below n c work work′ marks size few same =
+    keeps-same n c work work′ marks size few (λ k h. same k (omega arith)) (λ j h. same (8192 + j) (omega arith)) (λ j h. same (8704 + j) (omega arith))
 
 keeps-as : (n : ℕ) (c : RowLists) (work marks marks′ : List ℕ) → isOpen (view n marks) ≡ isOpen (view n marks′) → Keeps n c work marks → Keeps n c work marks′
 keeps-as n c work marks marks′ e k = record { kept = subst (λ (o : Qubits). Kept o c work) e (k .kept); on = subst (λ (o : Qubits). RowsOn o c work) e (k .on) }
@@ -72,25 +76,64 @@ filled-keeps n c marks work work′ size few last lit words f good =
     record { kept = f .kept t; on = f .rows t good }
 
 ----------------------------------------------------------------------
+-- What is kept of the rows, copied and back
+
+-- Two parts of a list copied, one behind the other; the parts and their copies do not overlap.
+module _ (a b a′ b′ count : ℕ) (old mid new : List ℕ) (first : Copied a b 9 old mid) (second : Copied a′ b′ count mid new)
+    (apart : apart? (length old) a b 9 ≡ true) (apart′ : apart? (length mid) a′ b′ count ≡ true) where
+  both-stay : (k : ℕ) → (k < b) ⊎ (b + 9 ≤ k) → (k < b′) ⊎ (b′ + count ≤ k) → getD new k 0 ≡ getD old k 0
+  both-stay k h i = second .stays apart′ k i ∙ first .stays apart k h
+
+  first-copied : b + 9 ≤ b′ → (j : ℕ) → j < 9 → getD new (b + j) 0 ≡ getD old (a + j) 0
+  first-copied h j l = second .stays apart′ (b + j) (inl (omega arith)) ∙ first .copied apart j l
+
+  second-copied : b + 9 ≤ a′ → (j : ℕ) → j < count → getD new (b′ + j) 0 ≡ getD old (a′ + j) 0
+  second-copied h j l = second .copied apart′ j l ∙ first .stays apart (a′ + j) (inr (omega arith))
+
+  second-before : a′ + count ≤ b → (j : ℕ) → j < count → getD new (b′ + j) 0 ≡ getD old (a′ + j) 0
+  second-before h j l = second .copied apart′ j l ∙ first .stays apart (a′ + j) (inl (omega arith))
+
+module _ (count : ℕ) (old mid new : List ℕ) (few : count ≤ 512) (words : 10240 ≤ length old) where
+  pub saves : Copied 8192 9216 9 old mid → Copied 8704 9728 count mid new → Saves count old new
+  unfolding apart?
+  saves first second =
+      let l = first .long in
+      let a : apart? (length old) 8192 9216 9 ≡ true = rw (le-leb 8201 (length old) (omega arith), le-leb 9225 (length old) (omega arith)) in
+      let b : apart? (length mid) 8704 9728 count ≡ true = rw (le-leb (8704 + count) (length mid) (omega arith), le-leb (9728 + count) (length mid) (omega arith), le-leb (8704 + count) 9728 (omega arith)) in
+      record {
+        long = second .long ∙ first .long;
+        stays = λ k h. both-stay 8192 9216 8704 9728 count old mid new first second a b k (inl h) (inl (omega arith));
+        set = first-copied 8192 9216 8704 9728 count old mid new first second a b (omega arith);
+        counts = second-before 8192 9216 8704 9728 count old mid new first second a b (omega arith);
+      }
+
+  pub restores : Copied 9216 8192 9 old mid → Copied 9728 8704 count mid new → Restores count old new
+  unfolding apart?
+  restores first second =
+      let l = first .long in
+      let a : apart? (length old) 9216 8192 9 ≡ true = rw (le-leb 9225 (length old) (omega arith), le-leb 8201 (length old) (omega arith)) in
+      let b : apart? (length mid) 9728 8704 count ≡ true
+      = rw (le-leb (9728 + count) (length mid) (omega arith), le-leb (8704 + count) (length mid) (omega arith), lt-leb (9728 + count) 8704 (omega arith), le-leb (8704 + count) 9728 (omega arith)) in
+      record {
+        long = second .long ∙ first .long;
+        stays = λ k h. both-stay 9216 8192 9728 8704 count old mid new first second a b k (inl h) (inl (omega arith));
+        set = first-copied 9216 8192 9728 8704 count old mid new first second a b (omega arith);
+        counts = second-copied 9216 8192 9728 8704 count old mid new first second a b (omega arith);
+      }
+
+----------------------------------------------------------------------
 -- Peeling first
 
 module _ (n : ℕ) (c : RowLists) (lost work work₁ work₂ work₃ marks marks₁ marks₂ marks₃ : List ℕ) (r : Bool) (size : n ≤ 1024) (few : c .count ≤ 512) (first : c .first ≤ 512)
     (words : 10240 ≤ length work) (room : n ≤ length marks) (lit : c .first + c .count ≤ length (c .lit))
-    (opened : Filled (openMark n lost) n marks marks₁) (filled : Fills n c marks₁ work work₁) (copied : Copied 8192 9216 1024 work₁ work₂)
+    (opened : Filled (openMark n lost) n marks marks₁) (filled : Fills n c marks₁ work work₁) (copied : Saves (c .count) work₁ work₂)
     (peels : Peels n (c .flat) (c .ends) (c .first) (c .count) (record { marks = marks₁; work = work₂ }) (record { marks = marks₂; work = work₃ }) r)
     (again : Filled (openMark n lost) n marks₂ marks₃) where
-  apart : apart? (length work₁) 8192 9216 1024 ≡ true
-  unfolding apart?
-  apart = let l = filled .long in rw (le-leb 9216 (length work₁) (omega arith), le-leb 10240 (length work₁) (omega arith))
-
-  stays-below : (k : ℕ) → k < 9216 → getD work₂ k 0 ≡ getD work₁ k 0
-  stays-below k h = copied .stays apart k (inl h)
-
   keeps-then : GoodRows n c → Keeps n c work₁ marks₁
   keeps-then good = filled-keeps n c marks₁ work work₁ size few (omega arith) lit (omega arith) filled good
 
   ready : GoodRows n c → Ready n (rowsIn (c .flat) (c .ends) (c .first) (c .count) (c .lit)) (record { marks = marks₁; work = work₂ })
-  ready good = let k = keeps-same n c work₁ work₂ marks₁ size few stays-below (keeps-then good) in record { good = good; kept = k .kept; on = k .on }
+  ready good = let k = keeps-below n c work₁ work₂ marks₁ size few (copied .stays) (keeps-then good) in record { good = good; kept = k .kept; on = k .on }
 
   fits : peeling.fits? n (c .first) (c .count) (length marks₁) (length work₂) ≡ true
   unfolding peeling.fits?
@@ -116,8 +159,9 @@ module _ (n : ℕ) (c : RowLists) (lost work work₁ work₂ work₃ marks marks
         saved = λ good. record {
           work = work₁;
           keeps = keeps-as n c work₁ marks₁ marks₃ same-open (keeps-then good);
-          below = λ k h. peels .stays .below k h ∙ stays-below k (omega arith);
-          copied = λ j h. peels .stays .past (9216 + j) (omega arith) ∙ copied .copied apart j h;
+          below = λ k h. peels .stays .below k h ∙ copied .stays k (omega arith);
+          set = λ j h. peels .stays .past (9216 + j) (omega arith) ∙ copied .set j h;
+          counts = λ j h. peels .stays .past (9728 + j) (omega arith) ∙ copied .counts j h;
         };
       }
 
@@ -149,7 +193,7 @@ module _ (n : ℕ) (c : RowLists) (lost : List ℕ) (other others : ℕ) (work w
         keeps = λ lit first few good.
             let l = long-then in
             let m = filled .long in
-            keeps-same n c work₃ work₄ marks′ size few (counts .counts (countable lit first few) .below)
+            keeps-below n c work₃ work₄ marks′ size few (counts .counts (countable lit first few) .below)
             (filled-keeps n c marks′ work₂ work₃ size few (omega arith) lit (omega arith) filled good);
         degrees = λ lit first few good o.
             counted-rule n (c .flat) (c .ends) (c .lit) (c .first) (c .count) work₃ work₄ o (counts .counts (countable lit first few)) good;
@@ -203,8 +247,7 @@ module _ (n : ℕ) (c : RowLists) (lost : List ℕ) (other others : ℕ) (work m
 
   module _ (e : not told ≡ false) (work₁ marks₁ : List ℕ) (r : Bool) (first : PeeledFirst n c lost work work₁ marks marks₁ r) where
     -- The lost qubits peel away, and what was kept of the rows is back in its place.
-    pub starts-peeled : r ≡ true → (work₂ : List ℕ) → Copied 9216 8192 1024 work₁ work₂ → Starts n c lost other others work work₂ marks marks₁
-    unfolding apart?
+    pub starts-peeled : r ≡ true → (work₂ : List ℕ) → Restores (c .count) work₁ work₂ → Starts n c lost other others work work₂ marks marks₁
     starts-peeled away work₂ restored =
         record {
           work-long = restored .long ∙ first .long;
@@ -217,15 +260,6 @@ module _ (n : ℕ) (c : RowLists) (lost : List ℕ) (other others : ℕ) (work m
         f : Fitting n c lost other others work marks
         f = fits-out e
 
-        apart : apart? (length work₁) 9216 8192 1024 ≡ true
-        apart = let l = first .long in let w = f .words in rw (le-leb 10240 (length work₁) (omega arith), le-leb 9216 (length work₁) (omega arith))
-
-        back : (s : Saved n c marks₁ work₁) → (k : ℕ) → k < 9216 → getD work₂ k 0 ≡ getD (s .work) k 0
-        back s k h =
-            ⊎-elim (λ (l : k < 8192). restored .stays apart k (inl l) ∙ s .below k l)
-            (λ (l : 8192 ≤ k). let i : 8192 + (k - 8192) ≡ k = omega arith in
-            subst (λ (x : ℕ). getD work₂ x 0 ≡ getD (s .work) x 0) i (restored .copied apart (k - 8192) (omega arith) ∙ s .copied (k - 8192) (omega arith))) (order k 8192)
-
         begun : GoodRows n c → All (Ascending n) (rowsFrom (c .flat) (c .ends) other others)
             → Commute (rowsFrom (c .flat) (c .ends) (c .first) (c .count)) (rowsFrom (c .flat) (c .ends) other others) → Begun n c lost other others work₂ marks₁
         begun good others-good even =
@@ -235,7 +269,8 @@ module _ (n : ℕ) (c : RowLists) (lost : List ℕ) (other others : ℕ) (work m
             (listed-below n lost) (commuting-checks (c .flat) (c .ends) (c .lit) (rowsFrom (c .flat) (c .ends) other others) (c .first) (c .count) even) leaves in
             record {
               marked = open-marks n lost marks₁ (first .opened .first) ∙ ap (startMark (listed n lost)) (sym (fun-ext none-fixed));
-              keeps = keeps-same n c (s .work) work₂ marks₁ (f .size) (f .few) (back s) (s .keeps);
+              keeps = keeps-same n c (s .work) work₂ marks₁ (f .size) (f .few) (λ k h. restored .stays k h ∙ s .below k h) (λ j h. restored .set j h ∙ s .set j h)
+                  (λ j h. restored .counts j h ∙ s .counts j h) (s .keeps);
               ruled = λ budget limit. unasked (rowChecks c) n (listed n lost) (fixedIn n c lost other others) none-fixed leaves (most (degreeOf work₂) n) (most (degree (rowChecks c)) n) budget limit (suc limit);
             }
 

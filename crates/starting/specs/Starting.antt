@@ -2,6 +2,7 @@
 --   PackedFrom   the work list holds the other kind's rows, packed
 --   fixedIn      the fixed qubits, of the other kind's rows in the lists
 --   Keeps        what is kept of the half's own rows is right over the marks
+--   Saves        what is kept of the rows copied, and back: Restores
 --   PeeledFirst  whether the lost qubits peel away
 --   Searched     the fixed qubits marked
 --   Begun        the marks are the start's, and the rule that the work list gives leads to the same end as the machine's
@@ -39,12 +40,27 @@ pub record Keeps (n : ℕ) (c : RowLists) (work marks : List ℕ) : Type 0 where
 ----------------------------------------------------------------------
 -- The two ways
 
--- What was kept of the rows, before it was used up: elements below 8192 stay, and those up to 9216 have a copy.
+-- The numbers of so many rows, the dangling rows and how many they are, copied to a second place; below 9216 every element stays.
+pub record Saves (count : ℕ) (old new : List ℕ) : Type 0 where
+  pub long : length new ≡ length old
+  pub stays : (k : ℕ) → k < 9216 → getD new k 0 ≡ getD old k 0
+  pub set : (j : ℕ) → j < 9 → getD new (9216 + j) 0 ≡ getD old (8192 + j) 0
+  pub counts : (j : ℕ) → j < count → getD new (9728 + j) 0 ≡ getD old (8704 + j) 0
+
+-- And back; below 8192 every element stays.
+pub record Restores (count : ℕ) (old new : List ℕ) : Type 0 where
+  pub long : length new ≡ length old
+  pub stays : (k : ℕ) → k < 8192 → getD new k 0 ≡ getD old k 0
+  pub set : (j : ℕ) → j < 9 → getD new (8192 + j) 0 ≡ getD old (9216 + j) 0
+  pub counts : (j : ℕ) → j < count → getD new (8704 + j) 0 ≡ getD old (9728 + j) 0
+
+-- What was kept of the rows, before it was used up: elements below 8192 stay, and the others have a copy.
 pub record Saved (n : ℕ) (c : RowLists) (marks work′ : List ℕ) : Type 0 where
   pub work : List ℕ
   pub keeps : Keeps n c work marks
   pub below : (k : ℕ) → k < 8192 → getD work′ k 0 ≡ getD work k 0
-  pub copied : (j : ℕ) → j < 1024 → getD work′ (9216 + j) 0 ≡ getD work (8192 + j) 0
+  pub set : (j : ℕ) → j < 9 → getD work′ (9216 + j) 0 ≡ getD work (8192 + j) 0
+  pub counts : (j : ℕ) → j < c .count → getD work′ (9728 + j) 0 ≡ getD work (8704 + j) 0
 
 pub record PeeledFirst (n : ℕ) (c : RowLists) (lost work work′ marks marks′ : List ℕ) (r : Bool) : Type 0 where
   pub long : length work′ ≡ length work

@@ -4,7 +4,7 @@ ghost use mathlib.Core.Path.{_≡_};
 ghost use Prim.Native.Nat.{_+_, _≤_};
 ghost use lib.ListN.{length};
 ghost use Rattle.starting.specs.Fills.{Filled, openMark};
-ghost use Rattle.starting.specs.Starting.{PackedFrom, PeeledFirst, Searched, fits?, Starts};
+ghost use Rattle.starting.specs.Starting.{PackedFrom, Saves, Restores, PeeledFirst, Searched, fits?, Starts};
 use code::Row;
 use code::Rows;
 
@@ -44,8 +44,26 @@ fn start_marks(n: usize, lost: &[u8], marks: &mut [u8])
     }
 }
 
-// Whether the lost qubits peel away, without a look at any reading. They are marked open; the work list has what was kept of the rows, its elements from 8192
-// to 9215 as a copy from 9216 on.
+// The dangling rows, how many they are, and the numbers of so many rows copied to elements 9216 on and 9728 on.
+fn save(count: usize, work: &mut [u64])
+    requires { ⌜ (count ≤ 512) × (10240 ≤ length (now work)) ⌝ }
+    ensures { λ _. ⌜ Saves count (now (work .entry)) (now (work .exit)) ⌝ }
+{
+    lists::copy_words(work, 8192, 9216, 9);
+    lists::copy_words(work, 8704, 9728, count);
+}
+
+// And back.
+fn restore(count: usize, work: &mut [u64])
+    requires { ⌜ (count ≤ 512) × (10240 ≤ length (now work)) ⌝ }
+    ensures { λ _. ⌜ Restores count (now (work .entry)) (now (work .exit)) ⌝ }
+{
+    lists::copy_words(work, 9216, 8192, 9);
+    lists::copy_words(work, 9728, 8704, count);
+}
+
+// Whether the lost qubits peel away, without a look at any reading. They are marked open; the work list has the rows on each of them, and a copy of what else was
+// kept of the rows.
 fn peel_first(
     n: u16,
     flat: &[u16],
@@ -62,7 +80,7 @@ fn peel_first(
     let size = n as usize;
     start_marks(size, lost, marks);
     filling::fill(n, flat, ends, lit, own, marks, work);
-    lists::copy_words(work, 8192, 9216, 1024);
+    save(own.count as usize, work);
     let away = peeling::peels_away(n, flat, ends, own, marks, work);
     start_marks(size, lost, marks);
     away
@@ -133,7 +151,7 @@ pub fn start(
         return;
     }
     if peel_first(n, flat, ends, lost, lit, own, work, marks) {
-        lists::copy_words(work, 9216, 8192, 1024);
+        restore(own.count as usize, work);
         return;
     }
     search_fixed(n, flat, ends, lost, lit, own, others, work, marks);

@@ -1,67 +1,76 @@
--- `search::add_later` meets its contract. Assumes nothing.
+-- `search::add_later` meets its contract: row j is the next with the column. Assumes nothing.
 use mathlib.Core.Path.{_≡_, refl, _∙_}
-use mathlib.Core.Logic.{⊎-elim}
-use Prim.Native.Nat.{_+_, _*_, _-_, _≤_, _<_}
+use mathlib.Core.Bool.{true}
+use Prim.Native.Nat.{_+_, _-_, _≤_, _<_}
 use native.Mathlib.Omega.{arith}
 use lib.ListN.{length}
 use Rattle.packing.specs.Packed.{cell}
-use Rattle.search.specs.Search.{Later}
 use Rattle.packing.proofs.Rows.{apart}
-use Rattle.search.proofs.Columns.{later-none, later-skipped, later-added}
+use Rattle.search.specs.Search.{Later}
+use Rattle.search.proofs.Columns.{later-none, later-to, later-added}
 use Rattle.search.proofs.add_later.Statement.{statement}
 use Rattle.search.proofs.add_later.Tie as tie
+use Rattle.search.proofs.add_later.Reads as reads
+use Rattle.search.proofs.add_later.Lts as lts
+use Rattle.search.proofs.find_row.Reads as find-row-reads
+use Rattle.search.proofs.join_row.Reads as join-row-reads
 
 abbrev Inv-loop : tie.InvT-loop
-Inv-loop m₀ w i rows q k b j₀ m j = (i < j) × (j ≤ rows) × (length m ≡ length m₀) × Later w i j q m₀ m
+Inv-loop m₀ w i rows q j₀ m j = (i < j) × (j ≤ rows) × (length m ≡ length m₀) × Later w i j q m₀ m × (j < rows → cell m w j q ≡ true)
 
 abbrev μ-loop : tie.MeasureT-loop
-μ-loop m₀ w i rows q k b j₀ m j = rows - j
+μ-loop m₀ w i rows q j₀ m j = rows - j
 
-add-j : tie.Need-add-j Inv-loop μ-loop
-add-j c = omega arith
+-- src/lib.rt:65:32
+add-find-row : tie.Need-add-find-row Inv-loop μ-loop
+add-find-row c = omega arith
 
+-- src/lib.rt:65:9
+find-row-requires : tie.Need-find-row-requires Inv-loop μ-loop
+find-row-requires c κs = omega arith
+
+-- src/lib.rt:66:5
 loop-holds : tie.Need-loop-holds Inv-loop μ-loop
-loop-holds c = (omega arith, omega arith, refl, later-none _ _ _ _)
+loop-holds c =
+    let a = c .before .before .before .args in
+    let f = c .find-row .ensures in
+    (omega (arith, f .start), f .within, refl, later-to (a .w) (a .i) (a .i + 1) (a .rows) (a .q) (a .m .now) (a .m .now) _ (omega arith) (omega arith) (later-none _ _ _ _) f, f .found)
 
-has-bit-requires : tie.Need-has-bit-requires Inv-loop μ-loop
-has-bit-requires c κs =
-    let a = c .before .before .before .before .args in
-    omega (arith, apart (a .w) (c .before .before .loop .j) (a .rows) (omega arith))
-
+-- src/lib.rt:67:9
 join-row-requires : tie.Need-join-row-requires Inv-loop μ-loop
 join-row-requires c κs =
-    let l = c .before .before .before .before .before in
-    let a = l .before .before .args in
-    omega (arith, apart (a .w) (l .loop .j) (a .rows) (omega arith), apart (a .w) (a .i) (a .rows) (omega arith))
+    let a = c .before .before .before .before .before .before .args in
+    omega (arith, apart (a .w) (c .before .before .loop .j) (a .rows) (omega arith), apart (a .w) (a .i) (a .rows) (omega arith))
 
-add-j-2 : tie.Need-add-j-2 Inv-loop μ-loop
-add-j-2 c = omega arith
+-- src/lib.rt:68:28
+add-find-row-2 : tie.Need-add-find-row-2 Inv-loop μ-loop
+add-find-row-2 c = omega arith
 
+-- src/lib.rt:68:9
+find-row-requires-2 : tie.Need-find-row-requires-2 Inv-loop μ-loop
+find-row-requires-2 c κs = (omega arith, omega arith, omega (arith, c .before .before .before .join-row .kept .0, c .before .before .before .before .before .before .loop .inv .2))
+
+-- src/lib.rt:66:5
 loop-less : tie.Need-loop-less Inv-loop μ-loop
-loop-less c = omega arith
+loop-less c = omega (arith, c .find-row2 .ensures .start)
 
+-- src/lib.rt:66:5
 loop-again : tie.Need-loop-again Inv-loop μ-loop
-unfolding cell
 loop-again c =
-    let l = c .before .before .before .before in
-    let a = l .before .before .args in
-    let room : a .q < 64 * a .w = omega arith in
-    let r : (length (c .if1 .m) ≡ length (a .m .now)) × Later (a .w) (a .i) (l .loop .j + 1) (a .q) (a .m .now) (c .if1 .m) =
-    ⊎-elim
-    (λ w. rw (w .5)
-    (w .2 .kept .0 ∙ l .loop .inv .2, later-added _ _ _ _ _ _ _ room (l .loop .inv .0) (l .loop .inv .3) _ (c .before .has-bit .ensures) (w .0 .taken) (w .2 .ensures)))
-    (λ w. rw (w .1)
-    (l .loop .inv .2, later-skipped _ _ _ _ _ _ room (l .loop .inv .0) (l .loop .inv .3) _ (c .before .has-bit .ensures) (w .0 .left)))
-    (c .if1 .came) in
-    (omega arith, omega arith, r .0, r .1)
+    let a = c .before .before .before .before .before .before .before .before .before .before .before .args in
+    let l = c .before .before .before .before .before .before .before .loop in
+    let f = c .find-row2 .ensures in
+    let added = later-added (a .w) (a .i) (l .j) (a .q) (a .m .now) (l .m) _ (omega arith) (l .inv .0) (l .inv .3) (l .inv .4 (c .before .before .before .before .before .before .loop-test .taken)) (c .before .before .before .before .join-row .ensures) in
+    (omega (arith, f .start), f .within, c .before .before .before .before .join-row .kept .0 ∙ l .inv .2, later-to (a .w) (a .i) (l .j + 1) (a .rows) (a .q) (a .m .now) _ _ (omega arith) (omega arith) added f, f .found)
 
+-- src/lib.rt:61:1
 same-length : tie.Need-same-length Inv-loop μ-loop
 same-length c = c .before .loop .inv .2
 
+-- src/lib.rt:61:1
 returns : tie.Need-returns Inv-loop μ-loop
-unfolding cell
 returns c =
-    let e : c .before .loop .j ≡ c .before .before .before .args .rows = omega arith in
+    let e : c .before .loop .j ≡ c .before .before .before .before .before .args .rows = omega arith in
     rw e at (c .before .loop .inv .3)
 
 pub add-later-spec : {M : Type 1} → statement M
@@ -70,11 +79,12 @@ add-later-spec =
     (tie.spec
     Inv-loop
     μ-loop
-    add-j
+    add-find-row
+    find-row-requires
     loop-holds
-    has-bit-requires
     join-row-requires
-    add-j-2
+    add-find-row-2
+    find-row-requires-2
     loop-less
     loop-again
     same-length

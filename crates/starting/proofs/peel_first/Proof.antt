@@ -6,43 +6,47 @@ use Rattle.starting.proofs.peel_first.Tie as tie
 use Rattle.starting.proofs.peel_first.Reads as reads
 use Rattle.starting.proofs.peel_first.Lts as lts
 use Rattle.filling.proofs.fill.Reads as fill-reads
-use Rattle.lists.proofs.copy_words.Reads as copy-words-reads
 use Rattle.peeling.proofs.peels_away.Reads as peels-away-reads
+use Rattle.starting.proofs.save.Reads as save-reads
 use Rattle.starting.proofs.start_marks.Reads as start-marks-reads
 
--- src/lib.rt:63:5
+-- src/lib.rt:81:5
 start-marks-requires : tie.Need-start-marks-requires
 start-marks-requires c κs = search needs
 
--- src/lib.rt:64:5
+-- src/lib.rt:82:5
 fill-requires : tie.Need-fill-requires
 fill-requires c κs = search needs
 
--- src/lib.rt:65:5
-copy-words-requires : tie.Need-copy-words-requires
-copy-words-requires c κs = search needs
+-- src/lib.rt:83:10
+cast-save : tie.Need-cast-save
+cast-save c = search needs
 
--- src/lib.rt:66:9
+-- src/lib.rt:83:5
+save-requires : tie.Need-save-requires
+save-requires c κs = search needs
+
+-- src/lib.rt:84:9
 peels-away-requires : tie.Need-peels-away-requires
 peels-away-requires c κs = search needs
 
--- src/lib.rt:67:5
+-- src/lib.rt:85:5
 start-marks-requires-2 : tie.Need-start-marks-requires-2
 start-marks-requires-2 c κs = search needs
 
--- src/lib.rt:49:1
+-- src/lib.rt:67:1
 same-length : tie.Need-same-length
 same-length c = search needs
 
--- src/lib.rt:49:1
+-- src/lib.rt:67:1
 same-length-2 : tie.Need-same-length-2
 same-length-2 c = search needs
 
--- src/lib.rt:49:1
+-- src/lib.rt:67:1
 returns : tie.Need-returns
 returns c =
-    let p = c .before .before .before .before .before .before .before .before .before .before .before .before .before .before .before .before .before .before .before .before .before .before .before .before .before .before .before .before .before .before .pre in
-    peeled-first _ (record { flat = c .before .before .before .before .before .before .before .before .before .before .before .before .before .before .before .before .before .before .before .before .before .before .before .before .before .before .before .before .before .before .args .flat .now; ends = c .before .before .before .before .before .before .before .before .before .before .before .before .before .before .before .before .before .before .before .before .before .before .before .before .before .before .before .before .before .before .args .ends .now; lit = c .before .before .before .before .before .before .before .before .before .before .before .before .before .before .before .before .before .before .before .before .before .before .before .before .before .before .before .before .before .before .args .lit .now; first = c .before .before .before .before .before .before .before .before .before .before .before .before .before .before .before .before .before .before .before .before .before .before .before .before .before .before .before .before .before .before .args .own .first .0; count = c .before .before .before .before .before .before .before .before .before .before .before .before .before .before .before .before .before .before .before .before .before .before .before .before .before .before .before .before .before .before .args .own .count }) _ _ _ _ _ _ _ _ _ _ (p .0) (p .1) (p .2) (p .3) (p .5) (p .6) (c .before .before .before .before .before .before .before .before .before .before .before .before .before .before .before .before .before .before .before .before .before .before .start-marks .ensures) (c .before .before .before .before .before .before .before .before .before .before .before .before .before .before .before .before .before .fill .ensures) (c .before .before .before .before .before .before .before .before .before .before .before .before .before .copy-words .ensures) (c .before .before .before .before .before .before .before .before .peels-away .ensures) (c .before .before .start-marks2 .ensures)
+    let p = c .before .before .before .before .before .before .before .before .before .before .before .before .before .before .before .before .before .before .before .before .before .before .before .before .before .before .before .before .before .before .before .pre in
+    peeled-first _ (record { flat = c .before .before .before .before .before .before .before .before .before .before .before .before .before .before .before .before .before .before .before .before .before .before .before .before .before .before .before .before .before .before .before .args .flat .now; ends = c .before .before .before .before .before .before .before .before .before .before .before .before .before .before .before .before .before .before .before .before .before .before .before .before .before .before .before .before .before .before .before .args .ends .now; lit = c .before .before .before .before .before .before .before .before .before .before .before .before .before .before .before .before .before .before .before .before .before .before .before .before .before .before .before .before .before .before .before .args .lit .now; first = c .before .before .before .before .before .before .before .before .before .before .before .before .before .before .before .before .before .before .before .before .before .before .before .before .before .before .before .before .before .before .before .args .own .first .0; count = c .before .before .before .before .before .before .before .before .before .before .before .before .before .before .before .before .before .before .before .before .before .before .before .before .before .before .before .before .before .before .before .args .own .count }) _ _ _ _ _ _ _ _ _ _ (p .0) (p .1) (p .2) (p .3) (p .5) (p .6) (c .before .before .before .before .before .before .before .before .before .before .before .before .before .before .before .before .before .before .before .before .before .before .before .start-marks .ensures) (c .before .before .before .before .before .before .before .before .before .before .before .before .before .before .before .before .before .before .fill .ensures) (c .before .before .before .before .before .before .before .before .before .before .before .before .before .save .ensures) (c .before .before .before .before .before .before .before .before .peels-away .ensures) (c .before .before .start-marks2 .ensures)
 
 pub peel-first-spec : {M : Type 1} → statement M
 peel-first-spec =
@@ -50,7 +54,8 @@ peel-first-spec =
     (tie.spec
     start-marks-requires
     fill-requires
-    copy-words-requires
+    cast-save
+    save-requires
     peels-away-requires
     start-marks-requires-2
     same-length
