@@ -4,6 +4,7 @@ ghost use Prim.Native.Nat.{_+_, _≤_, _<_};
 ghost use lib.ListN.{length};
 ghost use Rattle.scans.specs.Rows.{checkAt};
 ghost use Rattle.closing.specs.Closing.{TookIf, ClosingRows, fits?, ClosedRows, LitClosed};
+use code::KindRow;
 use code::Qubit;
 use code::Row;
 use code::Rows;
@@ -81,7 +82,7 @@ fn close(
     let mut left = live;
     let mut i = bitsets::next_in(work, p.0, 0, count);
     while i < count {
-        let open = kept::lower(i, work);
+        let open = kept::lower(KindRow(i), work);
         let taken = take_up_if(n, flat, ends, lit, Row(first + i), open == 0, left, forms);
         let Taken::Live(after) = taken else {
             return Taken::Failed;

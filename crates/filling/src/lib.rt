@@ -4,6 +4,7 @@ ghost use mathlib.Core.List.{List};
 ghost use Prim.Native.Nat.{ℕ, suc, _+_, _≤_, _<_};
 ghost use lib.ListN.{length};
 ghost use Rattle.filling.specs.Filling.{Emptied, RowAdded, KeptTo, fits?, Fills};
+use code::KindRow;
 use code::Qubit;
 use code::Row;
 use code::Rows;
@@ -62,7 +63,7 @@ fn keep_row(
     let at = 8704 + i as usize;
     work[at] = open;
     if open == 1 {
-        kept::change(i, true, work);
+        kept::change(KindRow(i), true, work);
     }
 }
 

@@ -1,19 +1,20 @@
 // What is kept of a half's rows while it is decoded: of each row the number of its open qubits, the dangling rows and how many they are, and the rows on
 // each open qubit.
 ghost use Rattle.kept.specs.Kept.{Changes, Lowered, LoweredRows, Lowest};
+use code::KindRow;
 use code::Qubit;
 
 // Row i joins the dangling rows, or leaves them.
-pub fn change(i: u16, joins: bool, work: &mut [u64])
-    ensures { λ _. ⌜ Changes i joins (now (work .entry)) (now (work .exit)) ⌝ }
+pub fn change(i: KindRow, joins: bool, work: &mut [u64])
+    ensures { λ _. ⌜ Changes (i .0) joins (now (work .entry)) (now (work .exit)) ⌝ }
 {
     if work.len() < 9216 {
         return;
     }
-    if 512 <= i {
+    if 512 <= i.0 {
         return;
     }
-    bitsets::flip(work, 1024, i);
+    bitsets::flip(work, 1024, i.0);
     let total = work[8200];
     if joins {
         if total < 512 {
@@ -27,16 +28,16 @@ pub fn change(i: u16, joins: bool, work: &mut [u64])
 }
 
 // Row i has an open qubit less; how many are left.
-pub fn lower(i: u16, work: &mut [u64]) -> u64
-    ensures { λ r. ⌜ Lowered i (now (work .entry)) (now (work .exit)) r ⌝ }
+pub fn lower(i: KindRow, work: &mut [u64]) -> u64
+    ensures { λ r. ⌜ Lowered (i .0) (now (work .entry)) (now (work .exit)) r ⌝ }
 {
     if work.len() < 9216 {
         return 0;
     }
-    if 512 <= i {
+    if 512 <= i.0 {
         return 0;
     }
-    let at = 8704 + i as usize;
+    let at = 8704 + i.0 as usize;
     let open = work[at];
     if open == 0 {
         return 0;
@@ -59,20 +60,20 @@ pub fn lower_rows(p: Qubit, count: u16, work: &mut [u64])
 {
     let mut i = bitsets::next_in(work, p.0, 0, count);
     while i < count {
-        lower(i, work);
+        lower(KindRow(i), work);
         i = bitsets::next_in(work, p.0, i + 1, count);
     }
 }
 
 // The lowest dangling row; the number of rows if none dangles, which no row is read to learn.
-pub fn lowest(count: u16, work: &[u64]) -> u16
-    ensures { λ r. ⌜ Lowest count (now (work .entry)) r ⌝ }
+pub fn lowest(count: u16, work: &[u64]) -> KindRow
+    ensures { λ r. ⌜ Lowest count (now (work .entry)) (r .0) ⌝ }
 {
     if work.len() < 9216 {
-        return count;
+        return KindRow(count);
     }
     if work[8200] == 0 {
-        return count;
+        return KindRow(count);
     }
-    bitsets::next_in(work, 1024, 0, count)
+    KindRow(bitsets::next_in(work, 1024, 0, count))
 }

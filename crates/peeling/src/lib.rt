@@ -20,11 +20,11 @@ fn peel_one(
     ensures { λ r. ⌜ OneStep n (now (flat .entry)) (now (ends .entry)) (rows .first .0) (rows .count) (record { marks = now (marks .entry); work = now (work .entry) }) (record { marks = now (marks .exit); work = now (work .exit) }) r ⌝ }
 {
     let i = kept::lowest(rows.count, work);
-    if rows.count <= i {
+    if rows.count <= i.0 {
         return false;
     }
     let first = rows.first;
-    let row = code::row_at(flat, ends, Row(first.0 + i));
+    let row = code::row_at(flat, ends, Row(first.0 + i.0));
     let at = scans::first_open(n, row, marks);
     if row.len() <= at {
         return false;

@@ -134,9 +134,9 @@ fn make_turn(
 {
     let size = n as usize;
     let i = kept::lowest(rows.count, work);
-    if i < rows.count {
+    if i.0 < rows.count {
         let first = rows.first;
-        let r = first.0 + i;
+        let r = first.0 + i.0;
         let row = code::row_at(flat, ends, Row(r));
         let at = scans::first_open(size, row, marks);
         if row.len() <= at {

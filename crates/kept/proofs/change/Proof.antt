@@ -39,7 +39,7 @@ same-length c = search needs
 
 -- src/lib.rt:22:9
 returns-3 : tie.Need-returns-3
-returns-3 c = changes _ _ (c .before .before .before .before .before .before .before .before .before .before .args .work .now) _ (omega arith) (omega arith) (joined _ _ (c .before .before .before .before .before .before .before .before .before .before .args .work .now) _ _ (omega arith) (omega arith) (c .before .before .before .before .before .flip .ensures) (c .before .if3 .taken) (c .if4 .taken) refl)
+returns-3 c = changes _ _ (c .before .before .before .before .before .before .before .before .before .before .before .args .work .now) _ (omega arith) (omega arith) (joined _ _ (c .before .before .before .before .before .before .before .before .before .before .before .args .work .now) _ _ (omega arith) (omega arith) (c .before .before .before .before .before .flip .ensures) (c .before .if3 .taken) (c .if4 .taken) refl)
 
 -- src/lib.rt:22:9
 same-length-2 : tie.Need-same-length-2
@@ -47,7 +47,7 @@ same-length-2 c = search needs
 
 -- src/lib.rt:22:9
 returns-4 : tie.Need-returns-4
-returns-4 c = changes _ _ (c .before .before .before .before .before .before .before .before .before .before .args .work .now) _ (omega arith) (omega arith) (full _ _ (c .before .before .before .before .before .before .before .before .before .before .args .work .now) _ _ (omega arith) (omega arith) (c .before .before .before .before .before .flip .ensures) (c .before .if3 .taken) (c .if4 .left) refl)
+returns-4 c = changes _ _ (c .before .before .before .before .before .before .before .before .before .before .before .args .work .now) _ (omega arith) (omega arith) (full _ _ (c .before .before .before .before .before .before .before .before .before .before .before .args .work .now) _ _ (omega arith) (omega arith) (c .before .before .before .before .before .flip .ensures) (c .before .if3 .taken) (c .if4 .left) refl)
 
 -- src/lib.rt:25:22
 sub-work : tie.Need-sub-work
@@ -63,7 +63,7 @@ same-length-3 c = search needs
 
 -- src/lib.rt:7:1
 returns-5 : tie.Need-returns-5
-returns-5 c = changes _ _ (c .before .before .before .before .before .before .before .before .before .before .args .work .now) _ (omega arith) (omega arith) (parted _ _ (c .before .before .before .before .before .before .before .before .before .before .args .work .now) _ _ (omega arith) (omega arith) (c .before .before .before .before .before .flip .ensures) (c .before .if3 .left) refl)
+returns-5 c = changes _ _ (c .before .before .before .before .before .before .before .before .before .before .before .args .work .now) _ (omega arith) (omega arith) (parted _ _ (c .before .before .before .before .before .before .before .before .before .before .before .args .work .now) _ _ (omega arith) (omega arith) (c .before .before .before .before .before .flip .ensures) (c .before .if3 .left) refl)
 
 -- src/lib.rt:7:1
 same-length-4 : tie.Need-same-length-4
@@ -71,7 +71,7 @@ same-length-4 c = search needs
 
 -- src/lib.rt:7:1
 returns-6 : tie.Need-returns-6
-returns-6 c = changes _ _ (c .before .before .before .before .before .before .before .before .before .before .args .work .now) _ (omega arith) (omega arith) (bare _ _ (c .before .before .before .before .before .before .before .before .before .before .args .work .now) _ _ (omega arith) (omega arith) (c .before .before .before .before .before .flip .ensures) (c .before .if3 .left) (omega (arith, c .if5 .left)) refl)
+returns-6 c = changes _ _ (c .before .before .before .before .before .before .before .before .before .before .before .args .work .now) _ (omega arith) (omega arith) (bare _ _ (c .before .before .before .before .before .before .before .before .before .before .before .args .work .now) _ _ (omega arith) (omega arith) (c .before .before .before .before .before .flip .ensures) (c .before .if3 .left) (omega (arith, c .if5 .left)) refl)
 
 pub change-spec : {M : Type 1} → statement M
 change-spec =

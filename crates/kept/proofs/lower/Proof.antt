@@ -13,6 +13,9 @@ returns c = lowered-not _ _ (λ a b d. omega (arith, c .if1 .taken))
 returns-2 : tie.Need-returns-2
 returns-2 c = lowered-not _ _ (λ a b d. omega (arith, c .if2 .taken))
 
+cast-at : tie.Need-cast-at
+cast-at c = search needs
+
 add-at : tie.Need-add-at
 add-at c = search needs
 
@@ -38,7 +41,7 @@ change-requires : tie.Need-change-requires
 change-requires c κs = search needs
 
 same-length : tie.Need-same-length
-same-length c = c .before .before .change .ensures .long ∙ length-set (c .before .before .before .before .before .before .before .before .before .before .args .work .now) _ _
+same-length c = c .before .before .change .ensures .long ∙ length-set (c .before .before .before .before .before .before .before .before .before .before .before .before .args .work .now) _ _
 
 returns-4 : tie.Need-returns-4
 returns-4 c = lowered-none _ _ _ (search needs) (search needs) (omega (arith, c .before .before .before .before .before .if3 .left)) (c .before .before .before .before .if4 .taken) _ (c .before .before .change .ensures .changed (rw length-set (search needs)) (search needs))
@@ -47,7 +50,7 @@ change-requires-2 : tie.Need-change-requires-2
 change-requires-2 c κs = search needs
 
 same-length-2 : tie.Need-same-length-2
-same-length-2 c = c .before .before .change2 .ensures .long ∙ length-set (c .before .before .before .before .before .before .before .before .before .before .before .args .work .now) _ _
+same-length-2 c = c .before .before .change2 .ensures .long ∙ length-set (c .before .before .before .before .before .before .before .before .before .before .before .before .before .args .work .now) _ _
 
 returns-5 : tie.Need-returns-5
 returns-5 c = lowered-one _ _ _ (search needs) (search needs) (omega (arith, c .before .before .before .before .before .before .if3 .left)) (c .before .before .before .before .if5 .taken) _ (c .before .before .change2 .ensures .changed (rw length-set (search needs)) (search needs))
@@ -64,6 +67,7 @@ lower-spec =
     (tie.spec
     returns
     returns-2
+    cast-at
     add-at
     mul-open
     slice-read-open

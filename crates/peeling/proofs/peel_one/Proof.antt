@@ -22,7 +22,7 @@ same-length c = search needs
 
 -- src/lib.rt:24:9
 returns : tie.Need-returns
-returns c = step-none _ _ _ _ _ _ _ (c .before .before .lowest .ensures) (c .before .before .before .before .before .before .before .before .pre .2) (c .if1 .taken)
+returns c = step-none _ _ _ _ _ _ _ (c .before .before .before .lowest .ensures) (c .before .before .before .before .before .before .before .before .before .pre .2) (c .if1 .taken)
 
 -- src/lib.rt:27:44
 add-p : tie.Need-add-p
@@ -46,7 +46,7 @@ same-length-3 c = search needs
 
 -- src/lib.rt:30:9
 returns-2 : tie.Need-returns-2
-returns-2 c = step-shut _ _ _ _ _ _ _ (c .before .before .before .before .before .before .before .before .lowest .ensures) (c .before .before .before .before .before .before .before .before .before .before .before .before .before .before .pre .2) (omega (arith, c .before .before .before .before .before .before .if1 .left)) _ (c .before .before .before .row-at .ensures) _ (c .before .first-open .ensures) (c .if2 .taken)
+returns-2 c = step-shut _ _ _ _ _ _ _ (c .before .before .before .before .before .before .before .before .before .before .lowest .ensures) (c .before .before .before .before .before .before .before .before .before .before .before .before .before .before .before .before .pre .2) (omega (arith, c .before .before .before .before .before .before .before .if1 .left)) _ (c .before .before .before .row-at .ensures) _ (c .before .first-open .ensures) (c .if2 .taken)
 
 -- src/lib.rt:32:13
 mul-p : tie.Need-mul-p
@@ -62,7 +62,7 @@ cast-q c = omega (arith, c .shared-slice-known3 .given (c .before .before .first
 
 -- src/lib.rt:34:5
 slice-write-marks : tie.Need-slice-write-marks
-slice-write-marks c = let b = p-below _ _ _ _ _ (record { marks = c .before .before .before .before .before .before .before .before .before .before .before .before .before .before .before .args .marks .now; work = c .before .before .before .before .before .before .before .before .before .before .before .before .before .before .before .args .work .now }) _ (c .before .before .before .before .before .before .before .before .before .lowest .ensures) (c .before .before .before .before .before .before .before .before .before .before .before .before .before .before .before .pre .2) (omega (arith, c .before .before .before .before .before .before .before .if1 .left)) _ (c .before .before .before .before .row-at .ensures) _ (c .before .before .first-open .ensures) (omega (arith, c .before .if2 .left)) _ refl (c .before .before .before .before .before .before .before .before .before .before .before .before .before .before .before .pre .0) (c .before .before .before .before .before .before .before .before .before .before .before .before .before .before .before .pre .3) (c .before .before .before .before .before .before .before .before .before .before .before .before .before .before .before .pre .1) in omega (arith, b, c .before .before .before .before .before .before .before .before .before .before .before .before .before .before .before .pre .1)
+slice-write-marks c = let b = p-below _ _ _ _ _ (record { marks = c .before .before .before .before .before .before .before .before .before .before .before .before .before .before .before .before .before .args .marks .now; work = c .before .before .before .before .before .before .before .before .before .before .before .before .before .before .before .before .before .args .work .now }) _ (c .before .before .before .before .before .before .before .before .before .before .before .lowest .ensures) (c .before .before .before .before .before .before .before .before .before .before .before .before .before .before .before .before .before .pre .2) (omega (arith, c .before .before .before .before .before .before .before .before .if1 .left)) _ (c .before .before .before .before .row-at .ensures) _ (c .before .before .first-open .ensures) (omega (arith, c .before .if2 .left)) _ refl (c .before .before .before .before .before .before .before .before .before .before .before .before .before .before .before .before .before .pre .0) (c .before .before .before .before .before .before .before .before .before .before .before .before .before .before .before .before .before .pre .3) (c .before .before .before .before .before .before .before .before .before .before .before .before .before .before .before .before .before .pre .1) in omega (arith, b, c .before .before .before .before .before .before .before .before .before .before .before .before .before .before .before .before .before .pre .1)
 
 -- src/lib.rt:35:5
 lower-rows-requires : tie.Need-lower-rows-requires
@@ -78,7 +78,7 @@ same-length-5 c = search needs
 
 -- src/lib.rt:11:1
 returns-3 : tie.Need-returns-3
-returns-3 c = step-made _ _ _ _ _ (record { marks = c .before .before .before .before .before .before .before .before .before .before .before .before .before .before .before .before .before .before .before .args .marks .now; work = c .before .before .before .before .before .before .before .before .before .before .before .before .before .before .before .before .before .before .before .args .work .now }) _ (c .before .before .before .before .before .before .before .before .before .before .before .before .before .lowest .ensures) (c .before .before .before .before .before .before .before .before .before .before .before .before .before .before .before .before .before .before .before .pre .2) (omega (arith, c .before .before .before .before .before .before .before .before .before .before .before .if1 .left)) _ (c .before .before .before .before .before .before .before .before .row-at .ensures) _ (c .before .before .before .before .before .before .first-open .ensures) (omega (arith, c .before .before .before .before .before .if2 .left)) _ refl (c .before .before .before .before .before .before .before .before .before .before .before .before .before .before .before .before .before .before .before .pre .0) (c .before .before .before .before .before .before .before .before .before .before .before .before .before .before .before .before .before .before .before .pre .3) (c .before .before .before .before .before .before .before .before .before .before .before .before .before .before .before .before .before .before .before .pre .1) _ (c .before .before .lower-rows .ensures)
+returns-3 c = step-made _ _ _ _ _ (record { marks = c .before .before .before .before .before .before .before .before .before .before .before .before .before .before .before .before .before .before .before .before .before .args .marks .now; work = c .before .before .before .before .before .before .before .before .before .before .before .before .before .before .before .before .before .before .before .before .before .args .work .now }) _ (c .before .before .before .before .before .before .before .before .before .before .before .before .before .before .before .lowest .ensures) (c .before .before .before .before .before .before .before .before .before .before .before .before .before .before .before .before .before .before .before .before .before .pre .2) (omega (arith, c .before .before .before .before .before .before .before .before .before .before .before .before .if1 .left)) _ (c .before .before .before .before .before .before .before .before .row-at .ensures) _ (c .before .before .before .before .before .before .first-open .ensures) (omega (arith, c .before .before .before .before .before .if2 .left)) _ refl (c .before .before .before .before .before .before .before .before .before .before .before .before .before .before .before .before .before .before .before .before .before .pre .0) (c .before .before .before .before .before .before .before .before .before .before .before .before .before .before .before .before .before .before .before .before .before .pre .3) (c .before .before .before .before .before .before .before .before .before .before .before .before .before .before .before .before .before .before .before .before .before .pre .1) _ (c .before .before .lower-rows .ensures)
 
 pub peel-one-spec : {M : Type 1} → statement M
 peel-one-spec =
