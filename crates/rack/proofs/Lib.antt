@@ -1,2 +1,2 @@
-pub mod Numbers
+pub mod Promising
 pub mod Runs

@@ -7,11 +7,12 @@ use Rattle.records.specs.declared.Answer.the-variants.{Refused, Taken, Complete
 use Rattle.records.specs.Lists.{Lists, Lent}
 use Rattle.claim.specs.Calls.{Step, step}
 use Rattle.claim.specs.Calls as calls
-use Rattle.rack.specs.declared.RackState.{RackState}
-use Rattle.rack.specs.declared.RackReply.{RackReply}
-use Rattle.rack.specs.Plain.{stateOf, plainAnswer, RackPromise}
+use Rattle.plain.specs.declared.RackState.{RackState}
+use Rattle.plain.specs.declared.RackReply.{RackReply}
+use Rattle.plain.specs.Plain.{stateOf, plainAnswer}
+use Rattle.rack.specs.Promise.{RackPromise}
 use Rattle.rack.specs.Runs.{RackCall, rack-step, plainCall, RackKeeps, rackStateLeft, rackListsLeft, RackRun, ended, call, StreamRun}
-use Rattle.rack.proofs.Numbers.{state-back}
+use Rattle.plain.proofs.Numbers.{state-back}
 
 -- The state handed back is the stream's.
 answer-state : (a : Answer) (s : RackState) → plainAnswer a s .state ≡ s

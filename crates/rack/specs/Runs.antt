@@ -7,9 +7,10 @@ use mathlib.Core.List.{List, [], _∷_, map}
 use Prim.Native.Nat.{ℕ}
 use Rattle.records.specs.Lists.{Lists, Six, Lent}
 use Rattle.claim.specs.Calls.{Call, step, Run}
-use Rattle.rack.specs.declared.RackState.{RackState}
-use Rattle.rack.specs.declared.RackReply.{RackReply}
-use Rattle.rack.specs.Plain.{stateOf, plainReply, RackPromise}
+use Rattle.plain.specs.declared.RackState.{RackState}
+use Rattle.plain.specs.declared.RackReply.{RackReply}
+use Rattle.plain.specs.Plain.{stateOf, plainReply}
+use Rattle.rack.specs.Promise.{RackPromise}
 
 -- A call of `rack_step`.
 pub record RackStep : Type 0 where

@@ -1,43 +1,11 @@
 // The stream's call for a rack's own program in C or Rust (include/rack.h): state and reply as plain numbers.
-mod plain;
-
 ghost use mathlib.Core.Path.{_≡_};
 ghost use Rattle.records.specs.Lists.{held, sixOf, lentOf};
 ghost use Rattle.records.specs.States.{freshState};
-ghost use Rattle.rack.specs.Plain.{version, plainState, RackPromise};
-
-// What passes from call to call beside the lists: a fresh start's, or as the last reply has it.
-#[repr(C)]
-pub struct RackState {
-    pub phase: u8,
-    pub clash: u8,
-    pub spoiled: u8,
-    pub stale: u8,
-    pub n: u16,
-    pub x: u16,
-    pub z: u16,
-    pub rows: u16,
-}
-
-// What is reported of a half; of an answer that is no report, zeros.
-#[repr(C)]
-pub struct RackHalf {
-    pub word: u16,
-    pub fixed: u16,
-    pub turns: u16,
-    pub guesses: u16,
-    pub live: u16,
-}
-
-// What a call hands back: the state, the answer with the table's number of a refusal, and the halves of a report.
-#[repr(C)]
-pub struct RackReply {
-    pub state: RackState,
-    pub answer: u16,
-    pub refusal: u16,
-    pub x: RackHalf,
-    pub z: RackHalf,
-}
+ghost use Rattle.plain.specs.Plain.{plainState};
+ghost use Rattle.rack.specs.Promise.{version, RackPromise};
+use plain::RackReply;
+use plain::RackState;
 
 // The library's version; the header's RACK_VERSION has to be the same.
 #[no_mangle]

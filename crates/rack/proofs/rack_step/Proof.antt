@@ -1,6 +1,6 @@
 -- `rack::rack_step` meets its contract. Assumes nothing.
 use borrow.Author.Needs.{needs}
-use Rattle.rack.proofs.Numbers.{rack-promise}
+use Rattle.rack.proofs.Promising.{rack-promise}
 use Rattle.rack.proofs.rack_step.Statement.{statement}
 use Rattle.rack.proofs.rack_step.Tie as tie
 

@@ -1,7 +1,7 @@
--- `rack::plain::unreported` meets its contract. Assumes nothing.
+-- `plain::unreported` meets its contract. Assumes nothing.
 use borrow.Author.Needs.{needs}
-use Rattle.rack.proofs.plain.unreported.Statement.{statement}
-use Rattle.rack.proofs.plain.unreported.Tie as tie
+use Rattle.plain.proofs.unreported.Statement.{statement}
+use Rattle.plain.proofs.unreported.Tie as tie
 
 no-half-requires : tie.Need-no-half-requires
 no-half-requires c κs = search needs

@@ -1,8 +1,8 @@
--- `rack::plain::state` meets its contract. Assumes nothing.
+-- `plain::state` meets its contract. Assumes nothing.
 use borrow.Author.Needs.{needs}
-use Rattle.rack.proofs.Numbers.{flag-cast}
-use Rattle.rack.proofs.plain.state.Statement.{statement}
-use Rattle.rack.proofs.plain.state.Tie as tie
+use Rattle.plain.proofs.Numbers.{flag-cast}
+use Rattle.plain.proofs.state.Statement.{statement}
+use Rattle.plain.proofs.state.Tie as tie
 
 phase-number-requires : tie.Need-phase-number-requires
 phase-number-requires c κs = search needs

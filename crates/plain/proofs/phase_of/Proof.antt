@@ -1,7 +1,7 @@
--- `rack::plain::phase_of` meets its contract. Assumes nothing.
+-- `plain::phase_of` meets its contract. Assumes nothing.
 use borrow.Author.Tests.{eq-eqb, ne-eqb}
-use Rattle.rack.proofs.plain.phase_of.Statement.{statement}
-use Rattle.rack.proofs.plain.phase_of.Tie as tie
+use Rattle.plain.proofs.phase_of.Statement.{statement}
+use Rattle.plain.proofs.phase_of.Tie as tie
 
 returns : tie.Need-returns
 returns c = rw (eq-eqb _ _ (c .if1 .taken))

@@ -1,7 +1,6 @@
-// States and replies as plain numbers.
-use crate::RackHalf;
-use crate::RackReply;
-use crate::RackState;
+// States and replies as plain numbers, for a rack's own program in C or Rust.
+ghost use mathlib.Core.Path.{_≡_};
+ghost use Rattle.plain.specs.Plain.{phaseOf, phaseNumber, stateOf, plainState, wordNumber, plainHalf, noHalf, unreported, plainAnswer, plainReply};
 use machine::HalfReport;
 use machine::Word;
 use records::Answer;
@@ -10,8 +9,39 @@ use records::Reply;
 use records::Report;
 use records::Sizes;
 use records::State;
-ghost use mathlib.Core.Path.{_≡_};
-ghost use Rattle.rack.specs.Plain.{phaseOf, phaseNumber, stateOf, plainState, wordNumber, plainHalf, noHalf, unreported, plainAnswer, plainReply};
+
+// What passes from call to call beside the lists: a fresh start's, or as the last reply has it.
+#[repr(C)]
+pub struct RackState {
+    pub phase: u8,
+    pub clash: u8,
+    pub spoiled: u8,
+    pub stale: u8,
+    pub n: u16,
+    pub x: u16,
+    pub z: u16,
+    pub rows: u16,
+}
+
+// What is reported of a half; of an answer that is no report, zeros.
+#[repr(C)]
+pub struct RackHalf {
+    pub word: u16,
+    pub fixed: u16,
+    pub turns: u16,
+    pub guesses: u16,
+    pub live: u16,
+}
+
+// What a call hands back: the state, the answer with the table's number of a refusal, and the halves of a report.
+#[repr(C)]
+pub struct RackReply {
+    pub state: RackState,
+    pub answer: u16,
+    pub refusal: u16,
+    pub x: RackHalf,
+    pub z: RackHalf,
+}
 
 // Any other number is no code: every value of a state is read as some state.
 fn phase_of(p: u8) -> Phase

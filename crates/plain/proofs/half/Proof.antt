@@ -1,7 +1,7 @@
--- `rack::plain::half` meets its contract. Assumes nothing.
+-- `plain::half` meets its contract. Assumes nothing.
 use borrow.Author.Needs.{needs}
-use Rattle.rack.proofs.plain.half.Statement.{statement}
-use Rattle.rack.proofs.plain.half.Tie as tie
+use Rattle.plain.proofs.half.Statement.{statement}
+use Rattle.plain.proofs.half.Tie as tie
 
 word-number-requires : tie.Need-word-number-requires
 word-number-requires c κs = search needs

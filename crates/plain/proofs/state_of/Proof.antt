@@ -1,7 +1,7 @@
--- `rack::plain::state_of` meets its contract. Assumes nothing.
+-- `plain::state_of` meets its contract. Assumes nothing.
 use borrow.Author.Needs.{needs}
-use Rattle.rack.proofs.plain.state_of.Statement.{statement}
-use Rattle.rack.proofs.plain.state_of.Tie as tie
+use Rattle.plain.proofs.state_of.Statement.{statement}
+use Rattle.plain.proofs.state_of.Tie as tie
 
 phase-of-requires : tie.Need-phase-of-requires
 phase-of-requires c κs = search needs

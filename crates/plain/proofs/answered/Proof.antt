@@ -1,11 +1,11 @@
--- `rack::plain::answered` meets its contract. Assumes nothing.
+-- `plain::answered` meets its contract. Assumes nothing.
 use mathlib.Core.Path.{_≡_, _∙_, sym, ap}
 use borrow.Author.Needs.{needs}
 use Rattle.records.specs.declared.Answer.{Answer}
-use Rattle.rack.specs.declared.RackState.{RackState}
-use Rattle.rack.specs.Plain.{plainAnswer}
-use Rattle.rack.proofs.plain.answered.Statement.{statement}
-use Rattle.rack.proofs.plain.answered.Tie as tie
+use Rattle.plain.specs.declared.RackState.{RackState}
+use Rattle.plain.specs.Plain.{plainAnswer}
+use Rattle.plain.proofs.answered.Statement.{statement}
+use Rattle.plain.proofs.answered.Tie as tie
 
 -- The answer is the variant taken.
 of : (s : RackState) {a b : Answer} → a ≡ b → plainAnswer b s ≡ plainAnswer a s

@@ -1,8 +1,8 @@
--- `rack::plain::reply` meets its contract. Assumes nothing.
+-- `plain::reply` meets its contract. Assumes nothing.
 use mathlib.Core.Path.{_∙_}
 use borrow.Author.Needs.{needs}
-use Rattle.rack.proofs.plain.reply.Statement.{statement}
-use Rattle.rack.proofs.plain.reply.Tie as tie
+use Rattle.plain.proofs.reply.Statement.{statement}
+use Rattle.plain.proofs.reply.Tie as tie
 
 state-requires : tie.Need-state-requires
 state-requires c κs = search needs

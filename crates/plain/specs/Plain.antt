@@ -1,12 +1,8 @@
 -- States and replies as plain numbers (include/rack.h).
---   version      the version of records, lists and structs that the header has too
---   stateOf      the state that a state's numbers stand for
---   plainState   the numbers of a state
---   plainReply   the numbers of a reply: the answer, the table's number of a refusal, word and counts of the halves of a report
---   RackPromise  the promise of `rack_step`: that of `stream::step`, in plain numbers
-use mathlib.Core.Path.{_≡_}
+--   stateOf     the state that a state's numbers stand for
+--   plainState  the numbers of a state
+--   plainReply  the numbers of a reply: the answer, the table's number of a refusal, word and counts of the halves of a report
 use mathlib.Core.Bool.{Bool, not, cond}
-use mathlib.Core.List.{List}
 use Prim.Native.Nat.{ℕ}
 use lib.Dec.{eqb}
 use Rattle.machine.specs.declared.Word.{Word}
@@ -19,14 +15,9 @@ use Rattle.records.specs.declared.Answer.{Answer}
 use Rattle.records.specs.declared.Answer.the-variants.{Refused, Taken, Complete, Decoded}
 use Rattle.records.specs.declared.Reply.{Reply}
 use Rattle.records.specs.Table.{refusalNumber}
-use Rattle.records.specs.Lists.{Lent}
-use Rattle.records.specs.Promise.{Promise}
-use Rattle.rack.specs.declared.RackState.{RackState}
-use Rattle.rack.specs.declared.RackHalf.{RackHalf}
-use Rattle.rack.specs.declared.RackReply.{RackReply}
-
-abbrev pub version : ℕ
-version = 3
+use Rattle.plain.specs.declared.RackState.{RackState}
+use Rattle.plain.specs.declared.RackHalf.{RackHalf}
+use Rattle.plain.specs.declared.RackReply.{RackReply}
 
 ----------------------------------------------------------------------
 -- States
@@ -98,12 +89,3 @@ plainAnswer (Refused why) s = unreported 3 (refusalNumber why) s
 
 abbrev pub plainReply : Reply → RackReply
 plainReply r = plainAnswer (r .answer) (plainState (r .state))
-
-----------------------------------------------------------------------
--- The promise
-
--- The numbers of a reply that `stream::step` promises at the state that the numbers given stand for.
-pub record RackPromise (s : RackState) (bytes : List ℕ) (old new : Lent) (r : RackReply) : Type 0 where
-  pub reply : Reply
-  pub promised : Promise (stateOf s) bytes old new reply
-  pub numbers : r ≡ plainReply reply

@@ -1,7 +1,7 @@
--- `rack::plain::reported` meets its contract. Assumes nothing.
+-- `plain::reported` meets its contract. Assumes nothing.
 use borrow.Author.Needs.{needs}
-use Rattle.rack.proofs.plain.reported.Statement.{statement}
-use Rattle.rack.proofs.plain.reported.Tie as tie
+use Rattle.plain.proofs.reported.Statement.{statement}
+use Rattle.plain.proofs.reported.Tie as tie
 
 half-requires : tie.Need-half-requires
 half-requires c κs = search needs
