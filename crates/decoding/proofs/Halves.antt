@@ -23,12 +23,10 @@ use Rattle.machine.specs.Report.{outcome}
 use Rattle.machine.specs.Lists.{HalfLists}
 use Rattle.halves.specs.declared.HalfAnswer.{HalfAnswer}
 use Rattle.halves.specs.declared.HalfAnswer.the-variants.{Refused, Decoded}
-use Rattle.halves.specs.Lists.{halfOf}
 use Rattle.halves.specs.Starts.{RowsObey}
 use Rattle.scans.specs.Rows.{RowLists}
 use Rattle.halves.specs.Decode.{Given, fitting, Decodes}
 use Rattle.records.specs.declared.Sizes.{Sizes}
-use Rattle.records.specs.declared.Report.{Report}
 use Rattle.records.specs.Records.{Pauli, X, Z, lost, lit, unread}
 use Rattle.records.specs.History.{Code, sizesOf, Shot, half}
 use Rattle.records.specs.Lists.{Lists, Six, marks, HeldShot}

@@ -9,7 +9,7 @@ use mathlib.Core.List.{List}
 use Prim.Native.Nat.{ℕ}
 use lib.ListN.{length, drop}
 use Rattle.machine.specs.Report.{Shown, outcome}
-use Rattle.machine.specs.Lists.{HalfLists, Past, Shows, SameLengths}
+use Rattle.machine.specs.Lists.{Past, Shows, SameLengths}
 use Rattle.halves.specs.Lists.{halfOf}
 use Rattle.halves.specs.Starts.{RowsObey}
 use Rattle.halves.specs.Decode.{Given, ownRows, fitting}

@@ -3,9 +3,8 @@ use mathlib.Core.Path.{_≡_, refl, sym, ap, ap₂, _∙_, subst}
 use mathlib.Core.Bool.{Bool, true, false, not, _&&_, _||_, cond}
 use mathlib.Core.Logic.{_⊎_, inl, ⊎-elim}
 use mathlib.Core.List.{List, [], _∷_}
-use Prim.Native.Nat.{ℕ, zero, suc, _+_, _-_, _*_, _/_, _%_, _≤_, _<_}
+use Prim.Native.Nat.{ℕ, suc, _+_, _*_, _/_, _%_, _≤_, _<_}
 use native.Mathlib.Numerals.{add-one}
-use native.Mathlib.Nat.{add-zero}
 use native.Mathlib.Omega.{arith}
 use lib.Dec.{eqb, ltb, leb}
 use lib.ListN.{length, getD, set, drop, drop-of-length-le, length-set}
@@ -14,19 +13,19 @@ use borrow.Author.Tests.{eq-eqb, ne-eqb, eqb-true, eqb-false, lt-ltb, le-ltb, lt
 use Rattle.binary.specs.Bits.{_⊕_}
 use Rattle.binary.specs.Bits
 use Rattle.binary.specs.Words
-use Rattle.binary.specs.Meaning.{Qubits, Row, All, has}
+use Rattle.binary.specs.Meaning.{Qubits, Row, has}
 use Rattle.binary.proofs.Bits.{bit, never, not-out, ⊕-false, and-out, tally-same, tally-few}
 use Rattle.binary.proofs.WordBits.{order, bit-zero}
 use Rattle.lists.specs.Cleared.{Cleared}
 use Rattle.bitsets.specs.Bitsets.{inSet, Flipped}
-use Rattle.code.specs.Lists.{rowAt, rowsFrom}
+use Rattle.code.specs.Lists.{rowAt}
 use Rattle.code.specs.Tests.{Ascending}
 use Rattle.code.proofs.Order.{Distinct, ascending-distinct}
 use Rattle.machine.specs.Machine.{isOpen, part}
 use Rattle.machine.specs.Lists.{view}
 use Rattle.scans.specs.Rows.{RowLists, read?, GoodRows}
 use Rattle.scans.proofs.Scanning.{open-below}
-use Rattle.kept.specs.Kept.{rowIn, openIn, single?, Changed}
+use Rattle.kept.specs.Kept.{rowIn, single?, Changed}
 use Rattle.kept.proofs.Same.{row-of, kept-by}
 use Rattle.filling.specs.Filling.{Emptied, RowAdded, KeptTo, fits?, Fills}
 

@@ -1,19 +1,19 @@
 -- Where peeling leaves nothing, no qubit is fixed, and no guess is made: the rule is never asked. Assumes nothing.
 use mathlib.Core.Path.{_≡_, refl, sym, ap, _∙_, fun-ext, subst}
-use mathlib.Core.Bool.{Bool, true, false, not, cond}
+use mathlib.Core.Bool.{Bool, true, false, cond}
 use mathlib.Core.Option.{Option, none, some}
 use mathlib.Core.List.{List, [], _∷_}
 use Prim.Native.Nat.{ℕ, zero, suc, _+_, _<_}
 use native.Mathlib.Nat.{zero-add}
 use native.Mathlib.Omega.{arith}
 use lib.Dec.{eqb}
-use Rattle.binary.specs.Bits.{_⊕_, below}
+use Rattle.binary.specs.Bits.{_⊕_}
 use Rattle.binary.specs.Meaning.{Qubits, Row, Check, Below, All, odd, Inside, product, Fixed, fixed?}
 use Rattle.binary.specs.Classes.{Commuting}
-use Rattle.binary.proofs.Bits.{⊕-false, bit, never, below-out, below-in, not-out, not-in, eq-eqb, eqb-eq}
+use Rattle.binary.proofs.Bits.{⊕-false, bit, never, below-out, below-in, not-out, not-in, eqb-eq}
 use Rattle.binary.proofs.Rows.{all-out, odd-product}
 use Rattle.binary.proofs.Tests.{fixed-out}
-use Rattle.machine.specs.Machine.{Forms, State, Stage, on, failed, End, put, isOpen, dangling, closed?, closing, takeUpAll, stage, blank, startMark, start, side, peel, turnBy, turn, noneOpen, onward, run, checks}
+use Rattle.machine.specs.Machine.{Forms, State, Stage, on, failed, put, isOpen, dangling, closed?, closing, takeUpAll, stage, blank, startMark, start, side, peel, turnBy, turn, noneOpen, onward, run, checks}
 use Rattle.machine.specs.Peeling.{peelStep, peeled, peelsAway, PeelLaw}
 use Rattle.machine.proofs.Runs.{before-cases}
 use Rattle.machine.proofs.Settling.{odd-open, shut-less}

@@ -8,7 +8,7 @@ use native.Mathlib.Omega.{arith}
 use lib.Dec.{eqb, leb}
 use lib.ListN.{length, getD, set, length-set}
 use borrow.Author.Tests.{leb-true, le-leb, not-false}
-use Rattle.binary.specs.Bits.{below, tally}
+use Rattle.binary.specs.Bits.{below}
 use Rattle.binary.specs.Meaning.{Qubits, Check}
 use Rattle.binary.proofs.Bits.{bit, never, and-out, not-out, not-in, eq-eqb, eqb-eq, below-out, below-in, tally-up, tally-few, none-counted}
 use Rattle.machine.specs.Machine.{put, isOpen, dangling}
@@ -18,7 +18,7 @@ use Rattle.machine.specs.Peeling.{peelStep, peeled, peelsAway}
 use Rattle.machine.proofs.Settling.{part-open}
 use Rattle.machine.proofs.Stages.{dangling-is, open-put}
 use Rattle.machine.proofs.Peeling.{peeled-plus, peeled-less, peeled-stays}
-use Rattle.scans.specs.Rows.{RowLists, rowChecks, GoodRows}
+use Rattle.scans.specs.Rows.{RowLists, rowChecks}
 use Rattle.scans.specs.Scans.{OpenFrom, countMarks}
 use Rattle.scans.proofs.Checks.{here}
 use Rattle.scans.proofs.Scanning.{open-below, view-set, rest-set, some-open}

@@ -1,6 +1,6 @@
 -- The two ways of a start: the lost qubits peel away, or the search is made. Assumes nothing.
 use mathlib.Core.Path.{_≡_, refl, sym, ap, _∙_, fun-ext, subst}
-use mathlib.Core.Bool.{Bool, true, false, not, _&&_, cond}
+use mathlib.Core.Bool.{Bool, true, false, not}
 use mathlib.Core.Logic.{_⊎_, inl, inr}
 use mathlib.Core.Option.{Option}
 use mathlib.Core.List.{List}
@@ -9,12 +9,12 @@ use native.Mathlib.Omega.{arith}
 use lib.Dec.{leb}
 use lib.ListN.{length, getD}
 use borrow.Author.Tests.{leb-true, le-leb, lt-leb}
-use Rattle.binary.specs.Meaning.{Qubits, Row, Check, All, Even, Commute, fixed?}
+use Rattle.binary.specs.Meaning.{Qubits, Row, All, Commute}
 use Rattle.binary.specs.Words.{listed}
 use Rattle.binary.specs.Classes.{Commuting}
 use Rattle.binary.proofs.Bits.{bit, never, and-out, not-out}
 use Rattle.lists.specs.Copied.{apart?, Copied}
-use Rattle.code.specs.Lists.{rowAt, rowsFrom}
+use Rattle.code.specs.Lists.{rowsFrom}
 use Rattle.code.specs.Tests.{Ascending}
 use Rattle.code.proofs.Order.{rows-below}
 use Rattle.machine.specs.Machine.{isOpen, keepIf, startMark, start, degree, most, run}
@@ -29,13 +29,12 @@ use Rattle.filling.specs.Filling as filling
 use Rattle.filling.specs.Filling.{Fills}
 use Rattle.peeling.specs.Peeling as peeling
 use Rattle.peeling.specs.Peeling.{Peels, Ready, rowsIn}
-use Rattle.packing.specs.Packed.{wordsFor}
 use Rattle.search.specs.Marked.{Marked}
 use Rattle.guessing.specs.Guessing.{degreeOf, countable?, Counts}
 use Rattle.guessing.proofs.Choices.{counted-rule}
 use Rattle.guessing.proofs.Room.{counts-long}
 use Rattle.starting.specs.Fills.{Filled, openMark}
-use Rattle.starting.specs.Starting.{PackedFrom, fixedIn, Keeps, Saves, Restores, Saved, PeeledFirst, Searched, Begun, fits?, fitting, Starts}
+use Rattle.starting.specs.Starting.{PackedFrom, fixedIn, Keeps, Saves, Restores, PeeledFirst, Searched, Begun, fits?, fitting, Starts}
 use Rattle.starting.proofs.Marks.{listed-below, open-marks, open-lost, long-enough, fixed-marks}
 
 ----------------------------------------------------------------------

@@ -1,16 +1,14 @@
 -- A qubit settled in the lists is one settled by the machine. Assumes nothing.
 use mathlib.Core.Path.{_≡_, refl, sym, ap, ap₂, _∙_, fun-ext, subst}
-use mathlib.Core.Bool.{Bool, true, false, not, _&&_, cond}
+use mathlib.Core.Bool.{Bool, true, false, not, _&&_}
 use mathlib.Core.Option.{Option, none, some}
 use mathlib.Core.List.{List, [], _∷_}
 use Prim.Native.Nat.{ℕ, suc, _+_, _*_, _%_, _^_, _≤_, _<_}
 use native.Mathlib.Numerals.{add-one}
 use native.Mathlib.Omega.{arith}
-use lib.Dec.{eqb, ltb}
+use lib.Dec.{eqb}
 use lib.ListN.{length, getD, set}
-use lib.Seq.{getD-set-same, getD-set-other}
 use lib.ListN.{length-set}
-use borrow.Author.Tests.{lt-ltb}
 use Rattle.binary.specs.Meaning.{Qubits, Row, Check, has}
 use Rattle.binary.specs.Words.{bit}
 use Rattle.binary.proofs.Bits.{bit as cases, never, eqb-eq, eq-eqb, eqb-differ, or-out, iff-eq}
@@ -28,7 +26,7 @@ use Rattle.scans.proofs.Scanning.{open-below, view-set, rest-set}
 use Rattle.kept.specs.Kept.{Kept}
 use Rattle.kept.proofs.Same.{rows-same}
 use Rattle.kept.proofs.Lowering.{not-has}
-use Rattle.closing.specs.Closing.{closedAt?, TakenRows, ClosingRows, fits?, fitting, ClosedRows}
+use Rattle.closing.specs.Closing.{closedAt?, TakenRows, ClosingRows}
 use Rattle.closing.proofs.TakingRows.{never-live}
 use Rattle.turns.specs.Turns.{Working, Ready, StageAs, Turns, Turned, ToppedWord, settleBy, Settled, peelBy, guessBy}
 use Rattle.machine.proofs.Settling.{side-top}

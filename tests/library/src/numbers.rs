@@ -10,7 +10,7 @@ use rack::{lent, Mark, Refusal, Word};
 
 const HEADER: &str = include_str!("../../../crates/rack/include/rack.h");
 const RAW: &str = include_str!("../../../crates/rack/rust/src/raw.rs");
-const PLAIN: &str = include_str!("../../../crates/rack/specs/Plain.antt");
+const PLAIN: &str = include_str!("../../../crates/plain/specs/Plain.antt");
 const MACHINE: &str = include_str!("../../../crates/machine/specs/Machine.antt");
 const TABLE: &str = include_str!("../../../crates/records/specs/Table.antt");
 const LISTS: &str = include_str!("../../../crates/records/specs/Lists.antt");

@@ -4,42 +4,30 @@ use Rattle.closing.proofs.ClosingRows.{fits-out, closed-refused, closed
 use borrow.Author.Needs.{needs}
 use Rattle.closing.proofs.close_rows.Statement.{statement}
 use Rattle.closing.proofs.close_rows.Tie as tie
-use Rattle.closing.proofs.close_rows.Reads as reads
-use Rattle.closing.proofs.close_rows.Lts as lts
-use Rattle.closing.proofs.close.Reads as close-reads
-use Rattle.closing.proofs.fits.Reads as fits-reads
 
--- src/lib.rt:120:9
 fits-requires : tie.Need-fits-requires
 fits-requires c κs = search needs
 
--- src/lib.rt:121:9
 same-length : tie.Need-same-length
 same-length c = search needs
 
--- src/lib.rt:121:9
 same-length-2 : tie.Need-same-length-2
 same-length-2 c = search needs
 
--- src/lib.rt:121:9
 returns : tie.Need-returns
 returns c = closed-refused _ (record { flat = c .before .before .before .before .before .before .before .before .before .args .flat .now; ends = c .before .before .before .before .before .before .before .before .before .args .ends .now; lit = c .before .before .before .before .before .before .before .before .before .args .lit .now; first = c .before .before .before .before .before .before .before .before .before .args .rows .first .0; count = c .before .before .before .before .before .before .before .before .before .args .rows .count }) _ _ _ _ _ (c .before .fits2 .ensures) (c .if1 .taken) _ _ refl refl
 
--- src/lib.rt:123:5
 close-requires : tie.Need-close-requires
 close-requires c κs =
     let f = fits-out _ (record { flat = c .before .before .before .before .before .before .before .before .before .before .before .args .flat .now; ends = c .before .before .before .before .before .before .before .before .before .before .before .args .ends .now; lit = c .before .before .before .before .before .before .before .before .before .before .before .args .lit .now; first = c .before .before .before .before .before .before .before .before .before .before .before .args .rows .first .0; count = c .before .before .before .before .before .before .before .before .before .before .before .args .rows .count }) _ (c .before .before .before .before .before .before .before .before .before .before .before .args .live) (c .before .before .before .before .before .before .before .before .before .before .before .args .forms .now) (c .before .before .before .before .before .before .before .before .before .before .before .args .work .now) _ (c .before .before .before .fits2 .ensures) (c .before .before .if1 .left) in
     (f .forms-long, f .small, f .few, f .work-long, f .lit, f .last)
 
--- src/lib.rt:107:1
 same-length-3 : tie.Need-same-length-3
 same-length-3 c = search needs
 
--- src/lib.rt:107:1
 same-length-4 : tie.Need-same-length-4
 same-length-4 c = search needs
 
--- src/lib.rt:107:1
 returns-2 : tie.Need-returns-2
 returns-2 c = closed-made _ (record { flat = c .before .before .before .before .before .before .before .before .before .before .before .before .before .before .before .before .args .flat .now; ends = c .before .before .before .before .before .before .before .before .before .before .before .before .before .before .before .before .args .ends .now; lit = c .before .before .before .before .before .before .before .before .before .before .before .before .before .before .before .before .args .lit .now; first = c .before .before .before .before .before .before .before .before .before .before .before .before .before .before .before .before .args .rows .first .0; count = c .before .before .before .before .before .before .before .before .before .before .before .before .before .before .before .before .args .rows .count }) _ _ _ _ _ (c .before .before .before .before .before .before .before .before .fits2 .ensures) (c .before .before .before .before .before .before .before .if1 .left) _ _ _ (c .before .before .before .before .close .ensures)
 

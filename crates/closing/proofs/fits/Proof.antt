@@ -4,22 +4,16 @@ use Rattle.closing.specs.Closing.{fits?}
 use borrow.Author.Needs.{needs}
 use Rattle.closing.proofs.fits.Statement.{statement}
 use Rattle.closing.proofs.fits.Tie as tie
-use Rattle.closing.proofs.fits.Reads as reads
-use Rattle.closing.proofs.fits.Lts as lts
 
--- src/lib.rt:100:16
 cast-last : tie.Need-cast-last
 cast-last c = search needs
 
--- src/lib.rt:100:35
 cast-last-2 : tie.Need-cast-last-2
 cast-last-2 c = search needs
 
--- src/lib.rt:100:16
 add-last : tie.Need-add-last
 add-last c = search needs
 
--- src/lib.rt:96:1
 returns : tie.Need-returns
 unfolding fits?
 returns c = refl

@@ -4,22 +4,16 @@ use Rattle.guessing.specs.Guessing.{countable?}
 use borrow.Author.Needs.{needs}
 use Rattle.guessing.proofs.can_count.Statement.{statement}
 use Rattle.guessing.proofs.can_count.Tie as tie
-use Rattle.guessing.proofs.can_count.Reads as reads
-use Rattle.guessing.proofs.can_count.Lts as lts
 
--- src/lib.rt:57:16
 cast-last : tie.Need-cast-last
 cast-last c = search needs
 
--- src/lib.rt:57:35
 cast-last-2 : tie.Need-cast-last-2
 cast-last-2 c = search needs
 
--- src/lib.rt:57:16
 add-last : tie.Need-add-last
 add-last c = search needs
 
--- src/lib.rt:53:1
 returns : tie.Need-returns
 unfolding countable?
 returns c = refl

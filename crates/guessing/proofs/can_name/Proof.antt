@@ -3,10 +3,7 @@ use mathlib.Core.Path.{refl}
 use Rattle.guessing.specs.Guessing.{namable?}
 use Rattle.guessing.proofs.can_name.Statement.{statement}
 use Rattle.guessing.proofs.can_name.Tie as tie
-use Rattle.guessing.proofs.can_name.Reads as reads
-use Rattle.guessing.proofs.can_name.Lts as lts
 
--- src/lib.rt:104:1
 returns : tie.Need-returns
 unfolding namable?
 returns c = refl

@@ -4,32 +4,22 @@ use Rattle.guessing.proofs.Room.{count-room, counts-made, counts-not}
 use borrow.Author.Needs.{needs}
 use Rattle.guessing.proofs.count_rows.Statement.{statement}
 use Rattle.guessing.proofs.count_rows.Tie as tie
-use Rattle.guessing.proofs.count_rows.Reads as reads
-use Rattle.guessing.proofs.count_rows.Lts as lts
-use Rattle.guessing.proofs.can_count.Reads as can-count-reads
-use Rattle.guessing.proofs.count.Reads as count-reads
 
--- src/lib.rt:65:8
 can-count-requires : tie.Need-can-count-requires
 can-count-requires c κs = search needs
 
--- src/lib.rt:66:9
 count-requires : tie.Need-count-requires
 count-requires c κs = count-room _ (c .before .before .before .before .before .before .before .before .args .flat .now) (c .before .before .before .before .before .before .before .before .args .ends .now) (c .before .before .before .before .before .before .before .before .args .lit .now) _ _ (c .before .before .before .before .before .before .before .before .args .work .now) _ (c .before .before .can-count .ensures) (c .before .if1 .taken)
 
--- src/lib.rt:62:1
 same-length : tie.Need-same-length
 same-length c = search needs
 
--- src/lib.rt:62:1
 returns : tie.Need-returns
 returns c = counts-made _ _ _ (c .before .before .before .before .before .before .before .before .before .before .before .args .lit .now) _ _ (c .before .before .before .before .before .before .before .before .before .before .before .args .work .now) _ (c .before .before .before .before .before .can-count .ensures) (c .before .before .before .before .if1 .taken) _ (c .before .before .count .ensures)
 
--- src/lib.rt:62:1
 same-length-2 : tie.Need-same-length-2
 same-length-2 c = search needs
 
--- src/lib.rt:62:1
 returns-2 : tie.Need-returns-2
 returns-2 c = counts-not _ _ _ (c .before .before .before .before .before .before .before .args .lit .now) _ _ (c .before .before .before .before .before .before .before .args .work .now) _ (c .before .can-count .ensures) (c .if1 .left) _ refl
 

@@ -3,24 +3,16 @@ use Rattle.guessing.proofs.Room.{name-room, named, unnamed}
 use borrow.Author.Needs.{needs}
 use Rattle.guessing.proofs.most_open.Statement.{statement}
 use Rattle.guessing.proofs.most_open.Tie as tie
-use Rattle.guessing.proofs.most_open.Reads as reads
-use Rattle.guessing.proofs.most_open.Lts as lts
-use Rattle.guessing.proofs.can_name.Reads as can-name-reads
-use Rattle.guessing.proofs.most.Reads as most-reads
 
--- src/lib.rt:114:8
 can-name-requires : tie.Need-can-name-requires
 can-name-requires c κs = search needs
 
--- src/lib.rt:115:9
 most-requires : tie.Need-most-requires
 most-requires c κs = name-room _ (c .before .before .before .before .args .marks .now) (c .before .before .before .before .args .work .now) _ (c .before .can-name .ensures) (c .if1 .taken)
 
--- src/lib.rt:115:9
 returns : tie.Need-returns
 returns c = named _ (c .before .before .before .before .before .args .marks .now) (c .before .before .before .before .before .args .work .now) _ (c .before .before .can-name .ensures) (c .before .if1 .taken) _ (c .most .ensures)
 
--- src/lib.rt:111:1
 returns-2 : tie.Need-returns-2
 returns-2 c = unnamed _ (c .before .before .before .before .args .marks .now) (c .before .before .before .before .args .work .now) _ (c .before .can-name .ensures) (c .if1 .left)
 

@@ -5,71 +5,52 @@ use Rattle.kept.proofs.Tallying.{joined, full, parted, bare, changes, u
 use borrow.Author.Needs.{needs}
 use Rattle.kept.proofs.change.Statement.{statement}
 use Rattle.kept.proofs.change.Tie as tie
-use Rattle.kept.proofs.change.Reads as reads
-use Rattle.kept.proofs.change.Lts as lts
-use Rattle.bitsets.proofs.flip.Reads as flip-reads
 
--- src/lib.rt:11:9
 returns : tie.Need-returns
 returns c = unchanged _ _ _ _ (λ a b. omega (arith, c .if1 .taken)) refl
 
--- src/lib.rt:14:9
 returns-2 : tie.Need-returns-2
 returns-2 c = unchanged _ _ _ _ (λ a b. omega (arith, c .if2 .taken)) refl
 
--- src/lib.rt:16:5
 flip-requires : tie.Need-flip-requires
 flip-requires c κs = search needs
 
--- src/lib.rt:17:17
 slice-read-total : tie.Need-slice-read-total
 slice-read-total c = search needs
 
--- src/lib.rt:20:26
 add-work : tie.Need-add-work
 add-work c = search needs
 
--- src/lib.rt:20:13
 slice-write-work : tie.Need-slice-write-work
 slice-write-work c = search needs
 
--- src/lib.rt:22:9
 same-length : tie.Need-same-length
 same-length c = search needs
 
--- src/lib.rt:22:9
 returns-3 : tie.Need-returns-3
 returns-3 c = changes _ _ (c .before .before .before .before .before .before .before .before .before .before .before .args .work .now) _ (omega arith) (omega arith) (joined _ _ (c .before .before .before .before .before .before .before .before .before .before .before .args .work .now) _ _ (omega arith) (omega arith) (c .before .before .before .before .before .flip .ensures) (c .before .if3 .taken) (c .if4 .taken) refl)
 
--- src/lib.rt:22:9
 same-length-2 : tie.Need-same-length-2
 same-length-2 c = search needs
 
--- src/lib.rt:22:9
 returns-4 : tie.Need-returns-4
 returns-4 c = changes _ _ (c .before .before .before .before .before .before .before .before .before .before .before .args .work .now) _ (omega arith) (omega arith) (full _ _ (c .before .before .before .before .before .before .before .before .before .before .before .args .work .now) _ _ (omega arith) (omega arith) (c .before .before .before .before .before .flip .ensures) (c .before .if3 .taken) (c .if4 .left) refl)
 
--- src/lib.rt:25:22
 sub-work : tie.Need-sub-work
 sub-work c = search needs
 
--- src/lib.rt:25:9
 slice-write-work-2 : tie.Need-slice-write-work-2
 slice-write-work-2 c = search needs
 
--- src/lib.rt:7:1
 same-length-3 : tie.Need-same-length-3
 same-length-3 c = search needs
 
--- src/lib.rt:7:1
 returns-5 : tie.Need-returns-5
 returns-5 c = changes _ _ (c .before .before .before .before .before .before .before .before .before .before .before .args .work .now) _ (omega arith) (omega arith) (parted _ _ (c .before .before .before .before .before .before .before .before .before .before .before .args .work .now) _ _ (omega arith) (omega arith) (c .before .before .before .before .before .flip .ensures) (c .before .if3 .left) refl)
 
--- src/lib.rt:7:1
 same-length-4 : tie.Need-same-length-4
 same-length-4 c = search needs
 
--- src/lib.rt:7:1
 returns-6 : tie.Need-returns-6
 returns-6 c = changes _ _ (c .before .before .before .before .before .before .before .before .before .before .before .args .work .now) _ (omega arith) (omega arith) (bare _ _ (c .before .before .before .before .before .before .before .before .before .before .before .args .work .now) _ _ (omega arith) (omega arith) (c .before .before .before .before .before .flip .ensures) (c .before .if3 .left) (omega (arith, c .if5 .left)) refl)
 

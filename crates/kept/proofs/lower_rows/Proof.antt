@@ -5,10 +5,6 @@ use native.Mathlib.Omega.{arith}
 use Rattle.kept.proofs.Lowering.{LoweringAll, lower-start, lower-turn, lower-end}
 use Rattle.kept.proofs.lower_rows.Statement.{statement}
 use Rattle.kept.proofs.lower_rows.Tie as tie
-use Rattle.kept.proofs.lower_rows.Reads as reads
-use Rattle.kept.proofs.lower_rows.Lts as lts
-use Rattle.bitsets.proofs.next_in.Reads as next-in-reads
-use Rattle.kept.proofs.lower.Reads as lower-reads
 
 abbrev Inv-loop : tie.InvT-loop
 Inv-loop p count work₀ i₀ work i = LoweringAll (p .0) count work₀ i work
@@ -16,39 +12,30 @@ Inv-loop p count work₀ i₀ work i = LoweringAll (p .0) count work₀ i work
 abbrev μ-loop : tie.MeasureT-loop
 μ-loop p count work₀ i₀ work i = count - i
 
--- src/lib.rt:60:9
 next-in-requires : tie.Need-next-in-requires Inv-loop μ-loop
 next-in-requires c κs = search needs
 
--- src/lib.rt:61:5
 loop-holds : tie.Need-loop-holds Inv-loop μ-loop
 loop-holds c = lower-start _ _ _ _ (c .next-in .ensures)
 
--- src/lib.rt:62:9
 lower-requires : tie.Need-lower-requires Inv-loop μ-loop
 lower-requires c κs = search needs
 
--- src/lib.rt:63:41
 add-next-in : tie.Need-add-next-in Inv-loop μ-loop
 add-next-in c = search needs
 
--- src/lib.rt:63:9
 next-in-requires-2 : tie.Need-next-in-requires-2 Inv-loop μ-loop
 next-in-requires-2 c κs = search needs
 
--- src/lib.rt:61:5
 loop-less : tie.Need-loop-less Inv-loop μ-loop
 loop-less c = let w = c .next-in2 .ensures .within (search needs) in omega (arith, w .0)
 
--- src/lib.rt:61:5
 loop-again : tie.Need-loop-again Inv-loop μ-loop
 loop-again c = lower-turn _ _ _ _ _ (c .before .before .before .before .before .before .before .loop .inv) (c .before .before .before .before .before .before .loop-test .taken) _ _ (c .before .before .before .before .lower .ensures) _ (c .next-in2 .ensures)
 
--- src/lib.rt:57:1
 same-length : tie.Need-same-length Inv-loop μ-loop
 same-length c = c .before .loop .inv .long
 
--- src/lib.rt:57:1
 returns : tie.Need-returns Inv-loop μ-loop
 returns c = lower-end _ _ _ _ _ (c .before .loop .inv) (omega (arith, c .loop-test .left))
 

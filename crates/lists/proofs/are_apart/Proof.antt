@@ -4,30 +4,22 @@ use Rattle.lists.proofs.Copying.{part-short, from-late, to-late, both-i
 use borrow.Author.Needs.{needs}
 use Rattle.lists.proofs.are_apart.Statement.{statement}
 use Rattle.lists.proofs.are_apart.Tie as tie
-use Rattle.lists.proofs.are_apart.Reads as reads
-use Rattle.lists.proofs.are_apart.Lts as lts
 
--- src/lib.rt:46:9
 returns : tie.Need-returns
 returns c = part-short _ _ _ _ (c .if1 .taken)
 
--- src/lib.rt:49:9
 returns-2 : tie.Need-returns-2
 returns-2 c = from-late _ _ _ _ (omega arith) (c .if2 .taken)
 
--- src/lib.rt:52:9
 returns-3 : tie.Need-returns-3
 returns-3 c = to-late _ _ _ _ (omega arith) (omega arith) (c .if3 .taken)
 
--- src/lib.rt:54:6
 add-result : tie.Need-add-result
 add-result c = search needs
 
--- src/lib.rt:54:29
 add-result-2 : tie.Need-add-result-2
 add-result-2 c = search needs
 
--- src/lib.rt:42:1
 returns-4 : tie.Need-returns-4
 returns-4 c = both-in _ _ _ _ (omega arith) (omega arith) (omega arith)
 

@@ -10,9 +10,6 @@ use Rattle.lists.specs.Copied.{apart?}
 use Rattle.lists.proofs.Copying.{CopiedTo, apart-out, copied-none, copied-more, copied-end, copied-not}
 use Rattle.lists.proofs.copy_words.Statement.{statement}
 use Rattle.lists.proofs.copy_words.Tie as tie
-use Rattle.lists.proofs.copy_words.Reads as reads
-use Rattle.lists.proofs.copy_words.Lts as lts
-use Rattle.lists.proofs.are_apart.Reads as are-apart-reads
 
 abbrev Inv-loop : tie.InvT-loop
 Inv-loop list₀ from to count k₀ list k = (k ≤ count) × (apart? (length list₀) from to count ≡ true) × CopiedTo from to k list₀ list
@@ -20,59 +17,45 @@ Inv-loop list₀ from to count k₀ list k = (k ≤ count) × (apart? (length li
 abbrev μ-loop : tie.MeasureT-loop
 μ-loop list₀ from to count k₀ list k = count - k
 
--- src/lib.rt:61:9
 are-apart-requires : tie.Need-are-apart-requires Inv-loop μ-loop
 are-apart-requires c κs = search needs
 
--- src/lib.rt:62:9
 returns : tie.Need-returns Inv-loop μ-loop
 returns c = copied-not _ _ _ _ _ (sym (c .before .are-apart .ensures) ∙ not-true _ (c .if1 .taken)) refl
 
--- src/lib.rt:65:5
 loop-holds : tie.Need-loop-holds Inv-loop μ-loop
 loop-holds c = (search needs, sym (c .before .are-apart .ensures) ∙ not-false _ (c .if1 .left), copied-none _ _ _)
 
--- src/lib.rt:66:29
 add-list : tie.Need-add-list Inv-loop μ-loop
 add-list c = let a = apart-out _ _ _ _ (c .before .loop .inv .1) in omega (arith, a .source, a .target, c .before .loop .inv .2 .long)
 
--- src/lib.rt:66:24
 mul-list : tie.Need-mul-list Inv-loop μ-loop
 mul-list c = let a = apart-out _ _ _ _ (c .before .loop .inv .1) in omega (arith, a .source, a .target, c .before .loop .inv .2 .long)
 
--- src/lib.rt:66:24
 slice-read-list : tie.Need-slice-read-list Inv-loop μ-loop
 slice-read-list c = let a = apart-out _ _ _ _ (c .before .before .loop .inv .1) in omega (arith, a .source, a .target, c .before .before .loop .inv .2 .long)
 
--- src/lib.rt:66:14
 add-list-2 : tie.Need-add-list-2 Inv-loop μ-loop
 add-list-2 c = let a = apart-out _ _ _ _ (c .before .before .loop .inv .1) in omega (arith, a .source, a .target, c .before .before .loop .inv .2 .long)
 
--- src/lib.rt:66:9
 mul-list-2 : tie.Need-mul-list-2 Inv-loop μ-loop
 mul-list-2 c = let a = apart-out _ _ _ _ (c .before .before .loop .inv .1) in omega (arith, a .source, a .target, c .before .before .loop .inv .2 .long)
 
--- src/lib.rt:66:9
 slice-write-list : tie.Need-slice-write-list Inv-loop μ-loop
 slice-write-list c = let a = apart-out _ _ _ _ (c .before .before .loop .inv .1) in omega (arith, a .source, a .target, c .before .before .loop .inv .2 .long)
 
--- src/lib.rt:67:9
 add-k : tie.Need-add-k Inv-loop μ-loop
 add-k c = let a = apart-out _ _ _ _ (c .before .before .loop .inv .1) in omega (arith, a .source, a .target, c .before .before .loop .inv .2 .long)
 
--- src/lib.rt:65:5
 loop-less : tie.Need-loop-less Inv-loop μ-loop
 loop-less c = omega arith
 
--- src/lib.rt:65:5
 loop-again : tie.Need-loop-again Inv-loop μ-loop
 loop-again c = (omega arith, c .before .before .loop .inv .1, copied-more _ _ _ _ _ _ (apart-out _ _ _ _ (c .before .before .loop .inv .1)) (c .before .loop-test .taken) (c .before .before .loop .inv .2))
 
--- src/lib.rt:58:1
 same-length : tie.Need-same-length Inv-loop μ-loop
 same-length c = c .before .loop .inv .2 .long
 
--- src/lib.rt:58:1
 returns-2 : tie.Need-returns-2 Inv-loop μ-loop
 returns-2 c = copied-end _ _ _ _ _ _ (c .before .loop .inv .1) (omega arith) (c .before .loop .inv .2)
 

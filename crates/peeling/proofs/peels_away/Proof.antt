@@ -1,6 +1,6 @@
 -- `peeling::peels_away` meets its contract: so many open qubits are left. Assumes nothing.
 use borrow.Author.Needs.{needs}
-use mathlib.Core.Path.{_≡_, refl, _∙_}
+use mathlib.Core.Path.{_≡_, _∙_}
 use mathlib.Core.Bool.{true}
 use native.Mathlib.Omega.{arith}
 use lib.ListN.{length}
@@ -8,11 +8,6 @@ use Rattle.peeling.specs.Peeling.{fits?}
 use Rattle.peeling.proofs.Steps.{Goes, room, fits-told, peels-refused, goes-start, peels-done, peels-stuck, goes-on}
 use Rattle.peeling.proofs.peels_away.Statement.{statement}
 use Rattle.peeling.proofs.peels_away.Tie as tie
-use Rattle.peeling.proofs.peels_away.Reads as reads
-use Rattle.peeling.proofs.peels_away.Lts as lts
-use Rattle.peeling.proofs.fits.Reads as fits-reads
-use Rattle.peeling.proofs.peel_one.Reads as peel-one-reads
-use Rattle.scans.proofs.count_marks.Reads as count-marks-reads
 
 abbrev Inv-loop : tie.InvT-loop
 Inv-loop n flat ends rows marks₀ work₀ size left₀ marks work left =
@@ -21,70 +16,54 @@ Inv-loop n flat ends rows marks₀ work₀ size left₀ marks work left =
 abbrev μ-loop : tie.MeasureT-loop
 μ-loop n flat ends rows marks₀ work₀ size left₀ marks work left = left
 
--- src/lib.rt:59:9
 fits-requires : tie.Need-fits-requires Inv-loop μ-loop
 fits-requires c κs = search needs
 
--- src/lib.rt:60:9
 same-length : tie.Need-same-length Inv-loop μ-loop
 same-length c = search needs
 
--- src/lib.rt:60:9
 same-length-2 : tie.Need-same-length-2 Inv-loop μ-loop
 same-length-2 c = search needs
 
--- src/lib.rt:60:9
 returns : tie.Need-returns Inv-loop μ-loop
 returns c = peels-refused _ _ _ _ _ (record { marks = c .before .before .before .before .before .before .before .before .args .marks .now; work = c .before .before .before .before .before .before .before .before .args .work .now }) _ (c .before .fits2 .ensures) (c .if1 .taken)
 
--- src/lib.rt:63:9
 count-marks-requires : tie.Need-count-marks-requires Inv-loop μ-loop
 count-marks-requires c κs = search needs
 
--- src/lib.rt:64:5
 loop-holds : tie.Need-loop-holds Inv-loop μ-loop
 loop-holds c = let f = fits-told _ _ _ _ _ _ (c .before .before .before .fits2 .ensures) (c .before .before .if1 .left) in (f, goes-start _ _ _ _ _ (record { marks = c .before .before .before .before .before .before .before .before .before .before .args .marks .now; work = c .before .before .before .before .before .before .before .before .before .before .args .work .now }) _ f (c .count-marks .ensures))
 
--- src/lib.rt:65:13
 peel-one-requires : tie.Need-peel-one-requires Inv-loop μ-loop
 peel-one-requires c κs =
     let inv = c .before .before .before .loop .inv in
     let r = room _ _ _ _ _ (inv .0) in
     (r .size, omega (arith, r .marks, inv .1 .stays .marks-long), omega (arith, r .work, inv .1 .stays .work-long), r .few, r .last)
 
--- src/lib.rt:66:13
 same-length-3 : tie.Need-same-length-3 Inv-loop μ-loop
 same-length-3 c = c .before .before .before .before .before .peel-one .ensures .stays .marks-long ∙ c .before .before .before .before .before .before .before .before .before .loop .inv .1 .stays .marks-long
 
--- src/lib.rt:66:13
 same-length-4 : tie.Need-same-length-4 Inv-loop μ-loop
 same-length-4 c = c .before .before .before .before .before .peel-one .ensures .stays .work-long ∙ c .before .before .before .before .before .before .before .before .before .loop .inv .1 .stays .work-long
 
--- src/lib.rt:66:13
 returns-2 : tie.Need-returns-2 Inv-loop μ-loop
 returns-2 c = peels-stuck _ _ _ _ _ (record { marks = c .before .before .before .before .before .before .before .before .before .before .before .before .before .before .before .before .before .before .before .before .args .marks .now; work = c .before .before .before .before .before .before .before .before .before .before .before .before .before .before .before .before .before .before .before .before .args .work .now }) _ _ (c .before .before .before .before .before .before .before .before .before .loop .inv .1) (c .before .before .before .before .before .before .before .before .before .loop .inv .0) (c .before .before .before .before .before .before .before .before .loop-test .taken) _ _ (c .before .before .before .before .before .peel-one .ensures) (c .if2 .taken)
 
--- src/lib.rt:68:9
 sub-left : tie.Need-sub-left Inv-loop μ-loop
 sub-left c = search needs
 
--- src/lib.rt:64:5
 loop-less : tie.Need-loop-less Inv-loop μ-loop
 loop-less c = search needs
 
--- src/lib.rt:64:5
 loop-again : tie.Need-loop-again Inv-loop μ-loop
 loop-again c = (c .before .before .before .before .before .before .before .before .before .loop .inv .0, goes-on _ _ _ _ _ (record { marks = c .before .before .before .before .before .before .before .before .before .before .before .before .before .before .before .before .before .before .before .before .args .marks .now; work = c .before .before .before .before .before .before .before .before .before .before .before .before .before .before .before .before .before .before .before .before .args .work .now }) _ _ (c .before .before .before .before .before .before .before .before .before .loop .inv .1) (c .before .before .before .before .before .before .before .before .before .loop .inv .0) (c .before .before .before .before .before .before .before .before .loop-test .taken) _ _ (c .before .before .before .before .before .peel-one .ensures) (c .if2 .left))
 
--- src/lib.rt:49:1
 same-length-5 : tie.Need-same-length-5 Inv-loop μ-loop
 same-length-5 c = c .before .loop .inv .1 .stays .marks-long
 
--- src/lib.rt:49:1
 same-length-6 : tie.Need-same-length-6 Inv-loop μ-loop
 same-length-6 c = c .before .loop .inv .1 .stays .work-long
 
--- src/lib.rt:49:1
 returns-3 : tie.Need-returns-3 Inv-loop μ-loop
 returns-3 c = peels-done _ _ _ _ _ (record { marks = c .before .before .before .before .before .before .before .before .before .before .before .before .args .marks .now; work = c .before .before .before .before .before .before .before .before .before .before .before .before .args .work .now }) _ _ (c .before .loop .inv .1) (c .before .loop .inv .0) (omega (arith, c .loop-test .left))
 

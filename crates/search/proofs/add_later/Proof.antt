@@ -10,10 +10,6 @@ use Rattle.search.specs.Search.{Later}
 use Rattle.search.proofs.Columns.{later-none, later-to, later-added}
 use Rattle.search.proofs.add_later.Statement.{statement}
 use Rattle.search.proofs.add_later.Tie as tie
-use Rattle.search.proofs.add_later.Reads as reads
-use Rattle.search.proofs.add_later.Lts as lts
-use Rattle.search.proofs.find_row.Reads as find-row-reads
-use Rattle.search.proofs.join_row.Reads as join-row-reads
 
 abbrev Inv-loop : tie.InvT-loop
 Inv-loop m₀ w i rows q j₀ m j = (i < j) × (j ≤ rows) × (length m ≡ length m₀) × Later w i j q m₀ m × (j < rows → cell m w j q ≡ true)
@@ -21,40 +17,32 @@ Inv-loop m₀ w i rows q j₀ m j = (i < j) × (j ≤ rows) × (length m ≡ len
 abbrev μ-loop : tie.MeasureT-loop
 μ-loop m₀ w i rows q j₀ m j = rows - j
 
--- src/lib.rt:65:32
 add-find-row : tie.Need-add-find-row Inv-loop μ-loop
 add-find-row c = omega arith
 
--- src/lib.rt:65:9
 find-row-requires : tie.Need-find-row-requires Inv-loop μ-loop
 find-row-requires c κs = omega arith
 
--- src/lib.rt:66:5
 loop-holds : tie.Need-loop-holds Inv-loop μ-loop
 loop-holds c =
     let a = c .before .before .before .args in
     let f = c .find-row .ensures in
     (omega (arith, f .start), f .within, refl, later-to (a .w) (a .i) (a .i + 1) (a .rows) (a .q) (a .m .now) (a .m .now) _ (omega arith) (omega arith) (later-none _ _ _ _) f, f .found)
 
--- src/lib.rt:67:9
 join-row-requires : tie.Need-join-row-requires Inv-loop μ-loop
 join-row-requires c κs =
     let a = c .before .before .before .before .before .before .args in
     omega (arith, apart (a .w) (c .before .before .loop .j) (a .rows) (omega arith), apart (a .w) (a .i) (a .rows) (omega arith))
 
--- src/lib.rt:68:28
 add-find-row-2 : tie.Need-add-find-row-2 Inv-loop μ-loop
 add-find-row-2 c = omega arith
 
--- src/lib.rt:68:9
 find-row-requires-2 : tie.Need-find-row-requires-2 Inv-loop μ-loop
 find-row-requires-2 c κs = (omega arith, omega arith, omega (arith, c .before .before .before .join-row .kept .0, c .before .before .before .before .before .before .loop .inv .2))
 
--- src/lib.rt:66:5
 loop-less : tie.Need-loop-less Inv-loop μ-loop
 loop-less c = omega (arith, c .find-row2 .ensures .start)
 
--- src/lib.rt:66:5
 loop-again : tie.Need-loop-again Inv-loop μ-loop
 loop-again c =
     let a = c .before .before .before .before .before .before .before .before .before .before .before .args in
@@ -63,11 +51,9 @@ loop-again c =
     let added = later-added (a .w) (a .i) (l .j) (a .q) (a .m .now) (l .m) _ (omega arith) (l .inv .0) (l .inv .3) (l .inv .4 (c .before .before .before .before .before .before .loop-test .taken)) (c .before .before .before .before .join-row .ensures) in
     (omega (arith, f .start), f .within, c .before .before .before .before .join-row .kept .0 ∙ l .inv .2, later-to (a .w) (a .i) (l .j + 1) (a .rows) (a .q) (a .m .now) _ _ (omega arith) (omega arith) added f, f .found)
 
--- src/lib.rt:61:1
 same-length : tie.Need-same-length Inv-loop μ-loop
 same-length c = c .before .loop .inv .2
 
--- src/lib.rt:61:1
 returns : tie.Need-returns Inv-loop μ-loop
 returns c =
     let e : c .before .loop .j ≡ c .before .before .before .before .before .args .rows = omega arith in

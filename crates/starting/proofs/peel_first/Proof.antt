@@ -3,46 +3,31 @@ use Rattle.starting.proofs.Ways.{peeled-first}
 use borrow.Author.Needs.{needs}
 use Rattle.starting.proofs.peel_first.Statement.{statement}
 use Rattle.starting.proofs.peel_first.Tie as tie
-use Rattle.starting.proofs.peel_first.Reads as reads
-use Rattle.starting.proofs.peel_first.Lts as lts
-use Rattle.filling.proofs.fill.Reads as fill-reads
-use Rattle.peeling.proofs.peels_away.Reads as peels-away-reads
-use Rattle.starting.proofs.save.Reads as save-reads
-use Rattle.starting.proofs.start_marks.Reads as start-marks-reads
 
--- src/lib.rt:81:5
 start-marks-requires : tie.Need-start-marks-requires
 start-marks-requires c κs = search needs
 
--- src/lib.rt:82:5
 fill-requires : tie.Need-fill-requires
 fill-requires c κs = search needs
 
--- src/lib.rt:83:10
 cast-save : tie.Need-cast-save
 cast-save c = search needs
 
--- src/lib.rt:83:5
 save-requires : tie.Need-save-requires
 save-requires c κs = search needs
 
--- src/lib.rt:84:9
 peels-away-requires : tie.Need-peels-away-requires
 peels-away-requires c κs = search needs
 
--- src/lib.rt:85:5
 start-marks-requires-2 : tie.Need-start-marks-requires-2
 start-marks-requires-2 c κs = search needs
 
--- src/lib.rt:67:1
 same-length : tie.Need-same-length
 same-length c = search needs
 
--- src/lib.rt:67:1
 same-length-2 : tie.Need-same-length-2
 same-length-2 c = search needs
 
--- src/lib.rt:67:1
 returns : tie.Need-returns
 returns c =
     let p = c .before .before .before .before .before .before .before .before .before .before .before .before .before .before .before .before .before .before .before .before .before .before .before .before .before .before .before .before .before .before .before .pre in

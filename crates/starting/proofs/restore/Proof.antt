@@ -3,23 +3,16 @@ use Rattle.starting.proofs.Ways.{restores}
 use borrow.Author.Needs.{needs}
 use Rattle.starting.proofs.restore.Statement.{statement}
 use Rattle.starting.proofs.restore.Tie as tie
-use Rattle.starting.proofs.restore.Reads as reads
-use Rattle.starting.proofs.restore.Lts as lts
-use Rattle.lists.proofs.copy_words.Reads as copy-words-reads
 
--- src/lib.rt:61:5
 copy-words-requires : tie.Need-copy-words-requires
 copy-words-requires c κs = search needs
 
--- src/lib.rt:62:5
 copy-words-requires-2 : tie.Need-copy-words-requires-2
 copy-words-requires-2 c κs = search needs
 
--- src/lib.rt:57:1
 same-length : tie.Need-same-length
 same-length c = search needs
 
--- src/lib.rt:57:1
 returns : tie.Need-returns
 returns c = restores _ _ _ _ (c .before .before .before .before .before .before .before .before .before .pre .0) (c .before .before .before .before .before .before .before .before .before .pre .1) (c .before .before .before .before .before .before .copy-words .ensures) (c .before .before .copy-words2 .ensures)
 

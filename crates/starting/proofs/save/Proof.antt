@@ -3,23 +3,16 @@ use Rattle.starting.proofs.Ways.{saves}
 use borrow.Author.Needs.{needs}
 use Rattle.starting.proofs.save.Statement.{statement}
 use Rattle.starting.proofs.save.Tie as tie
-use Rattle.starting.proofs.save.Reads as reads
-use Rattle.starting.proofs.save.Lts as lts
-use Rattle.lists.proofs.copy_words.Reads as copy-words-reads
 
--- src/lib.rt:52:5
 copy-words-requires : tie.Need-copy-words-requires
 copy-words-requires c κs = search needs
 
--- src/lib.rt:53:5
 copy-words-requires-2 : tie.Need-copy-words-requires-2
 copy-words-requires-2 c κs = search needs
 
--- src/lib.rt:48:1
 same-length : tie.Need-same-length
 same-length c = search needs
 
--- src/lib.rt:48:1
 returns : tie.Need-returns
 returns c = saves _ _ _ _ (c .before .before .before .before .before .before .before .before .before .pre .0) (c .before .before .before .before .before .before .before .before .before .pre .1) (c .before .before .before .before .before .before .copy-words .ensures) (c .before .before .copy-words2 .ensures)
 

@@ -3,42 +3,28 @@ use Rattle.starting.proofs.Ways.{searched}
 use borrow.Author.Needs.{needs}
 use Rattle.starting.proofs.search_fixed.Statement.{statement}
 use Rattle.starting.proofs.search_fixed.Tie as tie
-use Rattle.starting.proofs.search_fixed.Reads as reads
-use Rattle.starting.proofs.search_fixed.Lts as lts
-use Rattle.filling.proofs.fill.Reads as fill-reads
-use Rattle.guessing.proofs.count_rows.Reads as count-rows-reads
-use Rattle.search.proofs.mark_fixed.Reads as mark-fixed-reads
-use Rattle.starting.proofs.pack_rows.Reads as pack-rows-reads
 
--- src/lib.rt:86:5
 pack-rows-requires : tie.Need-pack-rows-requires
 pack-rows-requires c κs = search needs
 
--- src/lib.rt:87:27
 cast-mark-fixed : tie.Need-cast-mark-fixed
 cast-mark-fixed c = search needs
 
--- src/lib.rt:87:5
 mark-fixed-requires : tie.Need-mark-fixed-requires
 mark-fixed-requires c κs = search needs
 
--- src/lib.rt:88:5
 fill-requires : tie.Need-fill-requires
 fill-requires c κs = search needs
 
--- src/lib.rt:89:5
 count-rows-requires : tie.Need-count-rows-requires
 count-rows-requires c κs = search needs
 
--- src/lib.rt:72:1
 same-length : tie.Need-same-length
 same-length c = search needs
 
--- src/lib.rt:72:1
 same-length-2 : tie.Need-same-length-2
 same-length-2 c = search needs
 
--- src/lib.rt:72:1
 returns : tie.Need-returns
 returns c =
     let p = c .before .before .before .before .before .before .before .before .before .before .before .before .before .before .before .before .before .before .before .before .before .before .before .before .before .before .before .pre in

@@ -5,53 +5,37 @@ use Rattle.halves.proofs.HalfDecodes.{start-fits, turns-fit, turns-made
 use borrow.Author.Needs.{needs}
 use Rattle.halves.proofs.decode.decode.Statement.{statement}
 use Rattle.halves.proofs.decode.decode.Tie as tie
-use Rattle.halves.proofs.decode.decode.Reads as reads
-use Rattle.halves.proofs.decode.decode.Lts as lts
-use Rattle.halves.proofs.decode.finish.Reads as finish-reads
-use Rattle.halves.proofs.decode.nothing.Reads as nothing-reads
-use Rattle.starting.proofs.start.Reads as start-reads
-use Rattle.turns.proofs.run_turns.Reads as run-turns-reads
 
--- src/decode.rt:102:5
 start-requires : tie.Need-start-requires
 start-requires c κs = search needs
 
--- src/decode.rt:103:9
 run-turns-requires : tie.Need-run-turns-requires
 run-turns-requires c κs = search needs
 
--- src/decode.rt:104:25
 enum-known-ran : tie.Need-enum-known-ran
 enum-known-ran c = search needs
 
--- src/decode.rt:105:9
 enum-told : tie.Need-enum-told
 enum-told c = search needs
 
--- src/decode.rt:105:9
 nothing-requires : tie.Need-nothing-requires
 nothing-requires c κs = search needs
 
--- src/decode.rt:105:9
 same-length : tie.Need-same-length
 same-length c = search needs
 
--- src/decode.rt:105:9
 same-length-2 : tie.Need-same-length-2
 same-length-2 c = search needs
 
--- src/decode.rt:105:9
 same-length-3 : tie.Need-same-length-3
 same-length-3 c = search needs
 
--- src/decode.rt:105:9
 returns : tie.Need-returns
 returns c =
     let p = c .before .before .before .before .before .before .before .before .before .before .before .before .before .before .before .before .before .before .before .before .before .before .before .before .before .before .before .before .pre in
     let s = c .before .before .before .before .before .before .before .before .before .before .before .before .before .before .before .before .before .start .ensures in
     turns-made _ _ _ _ _ _ _ (c .before .before .before .before .before .before .before .before .before .run-turns .ensures) (turns-fit _ _ _ _ _ _ _ _ (omega (arith, p)) (omega (arith, p)) (omega (arith, p)) (omega (arith, p)) (omega (arith, p, s .work-long)) (omega (arith, p)) (omega (arith, p, s .marks-long)) (omega (arith, p))) (c .before .enum-told .given .1)
 
--- src/decode.rt:108:5
 finish-requires : tie.Need-finish-requires
 finish-requires c κs =
     let p = c .before .before .before .before .before .before .before .before .before .before .before .before .before .before .before .before .before .before .before .before .before .before .before .before .before .before .before .before .before .before .before .pre in
@@ -59,23 +43,18 @@ finish-requires c κs =
     let k = c .before .before .before .before .before .before .before .before .before .before .before .before .run-turns .ensures .stays in
     (omega (arith, p, s .marks-long, k .marks-long), omega (arith, p, k .forms-long), omega (arith, p))
 
--- src/decode.rt:83:1
 same-length-4 : tie.Need-same-length-4
 same-length-4 c = search needs
 
--- src/decode.rt:83:1
 same-length-5 : tie.Need-same-length-5
 same-length-5 c = search needs
 
--- src/decode.rt:83:1
 same-length-6 : tie.Need-same-length-6
 same-length-6 c = search needs
 
--- src/decode.rt:83:1
 same-length-7 : tie.Need-same-length-7
 same-length-7 c = search needs
 
--- src/decode.rt:83:1
 returns-2 : tie.Need-returns-2
 returns-2 c =
     let p = c .before .before .before .before .before .before .before .before .before .before .before .before .before .before .before .before .before .before .before .before .before .before .before .before .before .before .before .before .before .before .before .before .before .before .before .before .before .before .pre in
