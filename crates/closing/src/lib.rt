@@ -20,7 +20,7 @@ pub fn lit_closed(lit: &[u8], rows: Rows, work: &[u64]) -> bool
     if lit.len() < first + count {
         return false;
     }
-    if work.len() < 9216 {
+    if work.len() < kept::END {
         return false;
     }
     if 512 < count {
@@ -29,7 +29,7 @@ pub fn lit_closed(lit: &[u8], rows: Rows, work: &[u64]) -> bool
     let mut i: usize = 0;
     while i < count {
         if lit[first + i] == 1 {
-            if work[8704 + i] == 0 {
+            if work[kept::NUMBERS + i] == 0 {
                 return true;
             }
         }

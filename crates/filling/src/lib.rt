@@ -21,20 +21,20 @@ fn empty_sets(n: usize, marks: &[u8], work: &mut [u64])
         }
         q += 1;
     }
-    lists::clear_words(work, 8192, 8201);
+    lists::clear_words(work, kept::FIRST, 8201);
 }
 
 // Row i is on each of its open qubits; how many these are.
-fn add_row(n: usize, i: u16, row: &[u16], marks: &[u8], work: &mut [u64]) -> u64
-    requires { ⌜ (n ≤ 1024) × (i < 512) × (9216 ≤ length (now work)) ⌝ }
-    ensures { λ r. ⌜ RowAdded n i (now (row .entry)) (now (marks .entry)) (now (work .entry)) (now (work .exit)) r ⌝ }
+fn add_row(n: usize, i: KindRow, row: &[u16], marks: &[u8], work: &mut [u64]) -> u64
+    requires { ⌜ (n ≤ 1024) × (i .0 < 512) × (9216 ≤ length (now work)) ⌝ }
+    ensures { λ r. ⌜ RowAdded n (i .0) (now (row .entry)) (now (marks .entry)) (now (work .entry)) (now (work .exit)) r ⌝ }
 {
     let mut open: u64 = 0;
     let mut j: usize = 0;
     while j < row.len() {
         let q = row[j];
         if scans::is_open(n, marks, Qubit(q)) {
-            bitsets::flip(work, q, i);
+            bitsets::flip(work, q, i.0);
             open += 1;
         }
         j += 1;
@@ -48,22 +48,22 @@ fn keep_row(
     flat: &[u16],
     ends: &[u16],
     lit: &[u8],
-    first: u16,
-    count: u16,
-    i: u16,
+    rows: Rows,
+    i: KindRow,
     marks: &[u8],
     work: &mut [u64],
 )
-    requires { ⌜ (n ≤ 1024) × (count ≤ 512) × (i < count) × (9216 ≤ length (now work)) × (first + count ≤ length (now lit)) × (first + count ≤ 1024) ⌝ }
-    requires { ⌜ KeptTo i n (record { flat = now flat; ends = now ends; lit = now lit; first = first; count = count }) (now marks) (now work) ⌝ }
-    ensures { λ _. ⌜ (length (now (work .exit)) ≡ length (now (work .entry))) × KeptTo (suc i) n (record { flat = now (flat .entry); ends = now (ends .entry); lit = now (lit .entry); first = first; count = count }) (now (marks .entry)) (now (work .exit)) ⌝ }
+    requires { ⌜ (n ≤ 1024) × (rows .count ≤ 512) × (i .0 < rows .count) × (9216 ≤ length (now work)) × (rows .first .0 + rows .count ≤ length (now lit)) × (rows .first .0 + rows .count ≤ 1024) ⌝ }
+    requires { ⌜ KeptTo (i .0) n (record { flat = now flat; ends = now ends; lit = now lit; first = rows .first .0; count = rows .count }) (now marks) (now work) ⌝ }
+    ensures { λ _. ⌜ (length (now (work .exit)) ≡ length (now (work .entry))) × KeptTo (suc (i .0)) n (record { flat = now (flat .entry); ends = now (ends .entry); lit = now (lit .entry); first = rows .first .0; count = rows .count }) (now (marks .entry)) (now (work .exit)) ⌝ }
 {
-    let row = scans::read_row(flat, ends, lit, Row(first + i));
+    let first = rows.first;
+    let row = scans::read_row(flat, ends, lit, Row(first.0 + i.0));
     let open = add_row(n, i, row, marks, work);
-    let at = 8704 + i as usize;
+    let at = kept::NUMBERS + i.0 as usize;
     work[at] = open;
     if open == 1 {
-        kept::change(KindRow(i), true, work);
+        kept::change(i, true, work);
     }
 }
 
@@ -73,7 +73,11 @@ fn fits(n: u16, lit: &[u8], rows: Rows, work: &[u64]) -> bool
 {
     let first = rows.first;
     let last = first.0 as usize + rows.count as usize;
-    (n <= 1024) & (rows.count <= 512) & (last <= 1024) & (9216 <= work.len()) & (last <= lit.len())
+    (n <= 1024)
+        & (rows.count <= 512)
+        & (last <= 1024)
+        & (kept::END <= work.len())
+        & (last <= lit.len())
 }
 
 // Everything kept of the rows, from the marks.
@@ -92,12 +96,11 @@ pub fn fill(
         return;
     }
     let size = n as usize;
-    let first = rows.first;
     let count = rows.count;
     empty_sets(size, marks, work);
     let mut i: u16 = 0;
     while i < count {
-        keep_row(size, flat, ends, lit, first.0, count, i, marks, work);
+        keep_row(size, flat, ends, lit, rows, KindRow(i), marks, work);
         i += 1;
     }
 }

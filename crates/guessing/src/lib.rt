@@ -9,6 +9,9 @@ use code::Qubit;
 use code::Row;
 use code::Rows;
 
+// Where the work list has the number of rows on each qubit.
+const DEGREES: usize = 9216;
+
 // The qubit that the guess rule names.
 pub enum Choice {
     NoQubit,
@@ -25,7 +28,7 @@ fn add_row(n: usize, row: &[u16], work: &mut [u64])
     while i < row.len() {
         let q = row[i] as usize;
         if q < n {
-            let at = 9216 + q;
+            let at = DEGREES + q;
             work[at] += 1;
         }
         i += 1;
@@ -40,7 +43,7 @@ fn count(n: usize, flat: &[u16], ends: &[u16], lit: &[u8], rows: Rows, work: &mu
     let begin = rows.first;
     let first = begin.0;
     let count = rows.count;
-    lists::clear_words(work, 9216, 9216 + n);
+    lists::clear_words(work, DEGREES, DEGREES + n);
     let mut i: u16 = 0;
     while i < count {
         let row = scans::read_row(flat, ends, lit, Row(first + i));
@@ -75,8 +78,8 @@ fn better(work: &[u64], best: Choice, q: Qubit) -> Choice
     let Choice::Named(p) = best else {
         return Choice::Named(q);
     };
-    let low = 9216 + p.0 as usize;
-    let high = 9216 + q.0 as usize;
+    let low = DEGREES + p.0 as usize;
+    let high = DEGREES + q.0 as usize;
     if work[low] < work[high] {
         Choice::Named(q)
     } else {

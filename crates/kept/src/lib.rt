@@ -4,26 +4,38 @@ ghost use Rattle.kept.specs.Kept.{Changes, Lowered, LoweredRows, Lowest}
 use code::KindRow;
 use code::Qubit;
 
+// Places in the work list, behind the rows on each qubit: the set of dangling rows, which is set 1024 and begins at element 8192, and how many they are; of
+// each row the number of its open qubits; where they end.
+pub const DANGLING: u16 = 1024;
+
+pub const FIRST: usize = 8192;
+
+pub const TOTAL: usize = 8200;
+
+pub const NUMBERS: usize = 8704;
+
+pub const END: usize = 9216;
+
 // Row i joins the dangling rows, or leaves them.
 pub fn change(i: KindRow, joins: bool, work: &mut [u64])
     ensures { λ _. ⌜ Changes (i .0) joins (now (work .entry)) (now (work .exit)) ⌝ }
 {
-    if work.len() < 9216 {
+    if work.len() < END {
         return;
     }
     if 512 <= i.0 {
         return;
     }
-    bitsets::flip(work, 1024, i.0);
-    let total = work[8200];
+    bitsets::flip(work, DANGLING, i.0);
+    let total = work[TOTAL];
     if joins {
         if total < 512 {
-            work[8200] = total + 1;
+            work[TOTAL] = total + 1;
         }
         return;
     }
     if 0 < total {
-        work[8200] = total - 1;
+        work[TOTAL] = total - 1;
     }
 }
 
@@ -31,13 +43,13 @@ pub fn change(i: KindRow, joins: bool, work: &mut [u64])
 pub fn lower(i: KindRow, work: &mut [u64]) -> u64
     ensures { λ r. ⌜ Lowered (i .0) (now (work .entry)) (now (work .exit)) r ⌝ }
 {
-    if work.len() < 9216 {
+    if work.len() < END {
         return 0;
     }
     if 512 <= i.0 {
         return 0;
     }
-    let at = 8704 + i.0 as usize;
+    let at = NUMBERS + i.0 as usize;
     let open = work[at];
     if open == 0 {
         return 0;
@@ -69,11 +81,11 @@ pub fn lower_rows(p: Qubit, count: u16, work: &mut [u64])
 pub fn lowest(count: u16, work: &[u64]) -> KindRow
     ensures { λ r. ⌜ Lowest count (now (work .entry)) (r .0) ⌝ }
 {
-    if work.len() < 9216 {
+    if work.len() < END {
         return KindRow(count);
     }
-    if work[8200] == 0 {
+    if work[TOTAL] == 0 {
         return KindRow(count);
     }
-    KindRow(bitsets::next_in(work, 1024, 0, count))
+    KindRow(bitsets::next_in(work, DANGLING, 0, count))
 }

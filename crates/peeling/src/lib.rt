@@ -46,7 +46,7 @@ fn fits(n: u16, rows: Rows, marks: &[u8], work: &[u64]) -> bool
         & (rows.count <= 512)
         & (last <= 1024)
         & (n as usize <= marks.len())
-        & (9216 <= work.len())
+        & (kept::END <= work.len())
 }
 
 // Whether peeling leaves no open qubit. The work list has what is kept of the rows, over the marks, which is used up; a qubit that is peeled gets mark 2.

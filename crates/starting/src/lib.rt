@@ -44,13 +44,18 @@ fn start_marks(n: usize, lost: &[u8], marks: &mut [u8])
     }
 }
 
-// The dangling rows, how many they are, and the numbers of so many rows copied to elements 9216 on and 9728 on.
+// Where the work list has a copy of the dangling rows and their total, and of the numbers of the rows.
+const SET_COPY: usize = 9216;
+
+const NUMBERS_COPY: usize = 9728;
+
+// The dangling rows, how many they are, and the numbers of so many rows copied.
 fn save(count: usize, work: &mut [u64])
     requires { ⌜ (count ≤ 512) × (10240 ≤ length (now work)) ⌝ }
     ensures { λ _. ⌜ Saves count (now (work .entry)) (now (work .exit)) ⌝ }
 {
-    lists::copy_words(work, 8192, 9216, 9);
-    lists::copy_words(work, 8704, 9728, count);
+    lists::copy_words(work, kept::FIRST, SET_COPY, 9);
+    lists::copy_words(work, kept::NUMBERS, NUMBERS_COPY, count);
 }
 
 // And back.
@@ -58,8 +63,8 @@ fn restore(count: usize, work: &mut [u64])
     requires { ⌜ (count ≤ 512) × (10240 ≤ length (now work)) ⌝ }
     ensures { λ _. ⌜ Restores count (now (work .entry)) (now (work .exit)) ⌝ }
 {
-    lists::copy_words(work, 9216, 8192, 9);
-    lists::copy_words(work, 9728, 8704, count);
+    lists::copy_words(work, SET_COPY, kept::FIRST, 9);
+    lists::copy_words(work, NUMBERS_COPY, kept::NUMBERS, count);
 }
 
 // Whether the lost qubits peel away, without a look at any reading. They are marked open; the work list has the rows on each of them, and a copy of what else was

@@ -10,7 +10,7 @@ use Rattle.filling.proofs.add_row.Statement.{statement}
 use Rattle.filling.proofs.add_row.Tie as tie
 
 abbrev Inv-loop : tie.InvT-loop
-Inv-loop n i row marks work₀ open₀ j₀ work «open» j = (j ≤ length row) × Adding n i row marks work₀ j work «open»
+Inv-loop n i row marks work₀ open₀ j₀ work «open» j = (j ≤ length row) × Adding n (i .0) row marks work₀ j work «open»
 
 abbrev μ-loop : tie.MeasureT-loop
 μ-loop n i row marks work₀ open₀ j₀ work «open» j = length row - j

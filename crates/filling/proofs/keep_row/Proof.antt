@@ -15,6 +15,9 @@ read-row-requires c κs = search needs
 add-row-requires : tie.Need-add-row-requires
 add-row-requires c κs = search needs
 
+cast-at : tie.Need-cast-at
+cast-at c = search needs
+
 add-at : tie.Need-add-at
 add-at c = search needs
 
@@ -28,22 +31,22 @@ change-requires : tie.Need-change-requires
 change-requires c κs = search needs
 
 same-length : tie.Need-same-length
-same-length c = rw (c .before .before .change .ensures .long, length-set, c .before .before .before .before .before .before .before .add-row .ensures .long)
+same-length c = rw (c .before .before .change .ensures .long, length-set, c .before .before .before .before .before .before .before .before .add-row .ensures .long)
 
 returns : tie.Need-returns
 returns c =
-    let start = c .before .before .before .before .before .before .before .before .before .before .before .before .before .before .before in
+    let start = c .before .before .before .before .before .before .before .before .before .before .before .before .before .before .before .before .before .before .before in
     kept-dangling _ _ _ (start .args .marks .now) _ _ _ (start .pre .0 .0) (start .pre .0 .1) (start .pre .0 .2) (start .pre .0 .3) (start .pre .1)
-    (added-as _ _ _ _ _ _ _ _ (c .before .before .before .before .before .before .before .before .before .read-row .ensures) (c .before .before .before .before .before .before .before .add-row .ensures)) (c .before .before .before .before .if1 .taken) _ (c .before .before .change .ensures .changed (rw (length-set, c .before .before .before .before .before .before .before .add-row .ensures .long) (start .pre .0 .3)) (omega (arith, start .pre .0 .1, start .pre .0 .2)))
+    (added-as _ _ _ _ _ _ _ _ (c .before .before .before .before .before .before .before .before .before .before .read-row .ensures) (c .before .before .before .before .before .before .before .before .add-row .ensures)) (c .before .before .before .before .if1 .taken) _ (c .before .before .change .ensures .changed (rw (length-set, c .before .before .before .before .before .before .before .before .add-row .ensures .long) (start .pre .0 .3)) (omega (arith, start .pre .0 .1, start .pre .0 .2)))
 
 same-length-2 : tie.Need-same-length-2
 same-length-2 c = search needs
 
 returns-2 : tie.Need-returns-2
 returns-2 c =
-    let start = c .before .before .before .before .before .before .before .before .before .before .before in
+    let start = c .before .before .before .before .before .before .before .before .before .before .before .before .before .before .before in
     kept-plain _ _ _ (start .args .marks .now) _ _ _ (start .pre .0 .0) (start .pre .0 .1) (start .pre .0 .2) (start .pre .0 .3) (start .pre .1)
-    (added-as _ _ _ _ _ _ _ _ (c .before .before .before .before .before .read-row .ensures) (c .before .before .before .add-row .ensures)) (c .if1 .left)
+    (added-as _ _ _ _ _ _ _ _ (c .before .before .before .before .before .before .read-row .ensures) (c .before .before .before .before .add-row .ensures)) (c .if1 .left)
 
 pub keep-row-spec : {M : Type 1} → statement M
 keep-row-spec =
@@ -52,6 +55,7 @@ keep-row-spec =
     add-t13
     read-row-requires
     add-row-requires
+    cast-at
     add-at
     mul-work
     slice-write-work
