@@ -1,6 +1,6 @@
 -- The bits of a word: of the machine's operations, of 0, 1 and the powers of 2, and past a word's end. Assumes nothing.
 use mathlib.Core.Path.{_≡_, refl, sym, ap, _∙_}
-use mathlib.Core.Bool.{Bool, true, false, _||_}
+use mathlib.Core.Bool.{Bool, true, false, _&&_, _||_}
 use mathlib.Core.Logic.{_⊎_, inl, inr, ⊎-elim}
 use Prim.Native.Nat.{ℕ, zero, suc, _+_, _-_, _*_, _/_, _%_, _^_, _≤_, _<_}
 use native.Mathlib.Nat.{eq-zero-or-pos, lt-of-lt-of-le, div-eq-of-lt, div-self, zero-div, mod-self, one-mul}
@@ -9,7 +9,7 @@ use native.Mathlib.Omega.{arith}
 use borrow.Author.Tests.{eq-eqb, ne-eqb}
 use lib.Dec.{eqb, lit<, eqb·suc-zero}
 use lib.Pow.{pow-pos, pow-lt, pow-mono, shr-shr, field, mod-mod-pow, shl-exact}
-use lib.Bits.{bitOr, bitXor, or-shr, or-mod, xor-shr, xor-mod}
+use lib.Bits.{bitAnd, bitOr, bitXor, and-shr, and-mod, or-shr, or-mod, xor-shr, xor-mod}
 use Rattle.binary.specs.Bits.{_⊕_}
 use Rattle.binary.specs.Words.{bit}
 
@@ -48,6 +48,9 @@ bit-xor = bitwise bitXor _⊕_ xor-shr xor-mod refl refl refl refl
 
 pub bit-or : (a b k : ℕ) → bit (bitOr a b) k ≡ (bit a k || bit b k)
 bit-or = bitwise bitOr _||_ or-shr or-mod refl refl refl refl
+
+pub bit-and : (a b k : ℕ) → bit (bitAnd a b) k ≡ (bit a k && bit b k)
+bit-and = bitwise bitAnd _&&_ and-shr and-mod refl refl refl refl
 
 pub bit-zero : (k : ℕ) → bit 0 k ≡ false
 unfolding bit

@@ -1,4 +1,7 @@
-pub mod Words
-pub mod Columns
-pub mod Search
+pub mod Rows
+pub mod Choices
+pub mod Stands
 pub mod Passes
+pub mod Route
+pub mod Marked
+pub mod Examples

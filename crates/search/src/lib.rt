@@ -1,35 +1,26 @@
-// The search for the fixed qubits, in rows packed into the words of a lent list.
+// The search for the fixed qubits, in rows packed into the words of a lent list: the columns that are not lost are taken one by one, the shortest first, then
+// the lost ones ascending. A lost column that a row clears is a fixed qubit.
 ghost use mathlib.Core.Path.{_≡_};
-ghost use Prim.Native.Nat.{_+_, _*_, _<_};
-ghost use lib.ListN.{getD};
+ghost use Prim.Native.Nat.{_+_, _*_, _≤_, _<_};
+ghost use lib.ListN.{length, getD};
 ghost use Rattle.binary.specs.Words.{bit};
-ghost use Rattle.packing.specs.Packed.{wordsFor};
 ghost use Rattle.packing.specs.Packing.{RowIn};
+ghost use Rattle.columns.specs.Columns.{rowsWith};
 ghost use Rattle.search.specs.Marked.{enough, Marked};
-ghost use Rattle.search.specs.Search.{ColumnIn, ColumnsIn, joinedBy, Run, First, Later, Clears, Goes};
+ghost use Rattle.search.specs.Search.{ColumnIn, ColumnsIn, First, Later, Clears, Takes, Sound, Knowns, LostTaken, Losts};
 
-// The sum of two words, or the second in the place of the first.
-fn joined(add: bool, old: u64, new: u64) -> u64
-    ensures { λ r. ⌜ r ≡ joinedBy add old new ⌝ }
-{
-    if add {
-        return old ^ new;
-    }
-    new
+// Where the work list has the columns that a row cleared, in their order.
+const ORDER: usize = 9216;
+
+// How many rows cleared a column that was not lost, and how many any column.
+pub struct Cleared {
+    pub known: usize,
+    pub all: usize,
 }
 
-// Row `from` is added to row `to`, or copied to it. A row added to itself is emptied.
-fn join_row(m: &mut [u64], w: usize, from: usize, to: usize, add: bool)
-    requires { ⌜ RowIn w from (now m) × RowIn w to (now m) ⌝ }
-    ensures { λ _. ⌜ Run (joinedBy add) (from * w) (to * w) w (now (m .entry)) (now (m .exit)) ⌝ }
-{
-    let a = from * w;
-    let b = to * w;
-    let mut k = 0;
-    while k < w {
-        m[b + k] = joined(add, m[b + k], m[a + k]);
-        k += 1;
-    }
+pub enum Search {
+    Short,
+    Made(Cleared),
 }
 
 // Bit `b` of word `k` of row `i`.
@@ -57,38 +48,76 @@ fn find_row(m: &[u64], w: usize, top: usize, rows: usize, q: usize) -> usize
     i
 }
 
-// Row `i` is added to each later row that has column `q`.
-fn add_later(m: &mut [u64], w: usize, i: usize, rows: usize, q: usize)
-    requires { ⌜ (i < rows) × ColumnIn w i rows q (now m) ⌝ }
-    ensures { λ _. ⌜ Later w i rows q (now (m .entry)) (now (m .exit)) ⌝ }
+// Row `i` is added to each later row that has column `q`, of which there are at most `most`.
+fn add_later(m: &mut [u64], w: usize, i: usize, rows: usize, q: usize, most: usize)
+    requires { ⌜ (i < rows) × ColumnIn w i rows q (now m) × (rowsWith (now m) w (i + 1) rows q ≤ most) ⌝ }
+    ensures { λ _. ⌜ Later w rows i rows q (now (m .entry)) (now (m .exit)) ⌝ }
 {
-    let mut j = find_row(m, w, i + 1, rows, q);
-    while j < rows {
-        join_row(m, w, i, j, true);
+    let mut left = most;
+    let mut j = i;
+    while left > 0 {
         j = find_row(m, w, j + 1, rows, q);
+        if j == rows {
+            return;
+        }
+        numbering::add_row(m, w, i, j);
+        left -= 1;
     }
 }
 
-// Clears column `q` of the rows from `top` on: the first row with it leaves, and row `top` takes its place. Answers whether there was one.
-fn clear_column(m: &mut [u64], w: usize, top: usize, rows: usize, q: usize) -> bool
-    requires { ⌜ ColumnIn w top rows q (now m) ⌝ }
+// Clears column `q`, which at most `most` of the rows from `top` on have: the first one is added to the others, and leaves, and row `top` takes its place.
+// Answers whether there was one.
+fn clear_column(m: &mut [u64], w: usize, top: usize, rows: usize, q: usize, most: usize) -> bool
+    requires { ⌜ ColumnIn w top rows q (now m) × (rowsWith (now m) w top rows q ≤ most) ⌝ }
     ensures { λ r. ⌜ Clears w top rows q (now (m .entry)) (now (m .exit)) r ⌝ }
 {
     let i = find_row(m, w, top, rows, q);
     if i == rows {
         return false;
     }
-    add_later(m, w, i, rows, q);
+    add_later(m, w, i, rows, q, most - 1);
+    numbering::add_row(m, w, i, i);
     if i == top {
         return true;
     }
-    join_row(m, w, top, i, false);
+    lists::copy_words(m, top * w, i * w, w);
     true
 }
 
-// Clears column `q`, if the pass takes it: it takes the lost columns if `pass` is true, and else the others. A lost column that a row
-// clears is marked. Returns the new top.
-fn take_column(
+// Column `q`, which at most `most` rows have, is cleared; if there was a row to clear it, the column is noted. Returns how many rows have cleared one.
+fn take_column(work: &mut [u64], w: usize, top: usize, rows: usize, q: usize, most: usize) -> usize
+    requires { ⌜ ColumnIn w top rows q (now work) × (rowsWith (now work) w top rows q ≤ most) ⌝ }
+    ensures { λ r. ⌜ Takes w top rows q (now (work .entry)) (now (work .exit)) r ⌝ }
+{
+    if !clear_column(work, w, top, rows, q, most) {
+        return top;
+    }
+    work[ORDER + top] = q as u64;
+    top + 1
+}
+
+// The columns that are not lost are taken, the shortest first. Returns how many rows have cleared one.
+fn take_known(work: &mut [u64], n: usize, w: usize, rows: usize) -> usize
+    requires { ⌜ ColumnsIn n w rows (now work) × Sound n w rows 0 (now work) ⌝ }
+    ensures { λ r. ⌜ Knowns n w rows (now (work .entry)) r (now (work .exit)) ⌝ }
+{
+    let mut top: usize = 0;
+    let mut k: usize = 0;
+    while k < n {
+        let next = choosing::take_shortest(work, w);
+        if next.rows == 1024 {
+            return top;
+        }
+        if next.rows > 0 {
+            top = take_column(work, w, top, rows, next.column, next.rows);
+        }
+        k += 1;
+    }
+    top
+}
+
+// Column `q` is taken, if it is lost, and marked, if a row clears it. Returns how many rows have cleared a column.
+fn take_if_lost(
     work: &mut [u64],
     marks: &mut [u8],
     lost: &[u8],
@@ -97,29 +126,23 @@ fn take_column(
     rows: usize,
     top: usize,
     q: usize,
-    pass: bool,
 ) -> usize
-    requires { ⌜ (q < n) × ColumnsIn n w top rows (now lost) (now work) (now marks) ⌝ }
-    ensures { λ r. ⌜ Goes n w rows (now (lost .entry)) pass q (q + 1) top (now (work .entry)) (now (marks .entry)) r (now (work .exit)) (now (marks .exit)) ⌝ }
+    requires { ⌜ (q < n) × (top ≤ rows) × ColumnsIn n w rows (now work) × (n ≤ length (now lost)) × (n ≤ length (now marks)) ⌝ }
+    ensures { λ r. ⌜ LostTaken n w rows (now (lost .entry)) q top (now (work .entry)) (now (marks .entry)) r (now (work .exit)) (now (marks .exit)) ⌝ }
 {
-    let gone = lost[q] == 1;
-    if gone != pass {
+    if lost[q] != 1 {
         return top;
     }
-    let cleared = clear_column(work, w, top, rows, q);
-    if !cleared {
+    let next = take_column(work, w, top, rows, q, rows);
+    if next == top {
         return top;
-    }
-    let next = top + 1;
-    if !pass {
-        return next;
     }
     marks[q] = 1;
     next
 }
 
-// A pass over the columns, until no row is left. Returns the new top.
-fn take_columns(
+// The lost columns are taken, ascending. Returns how many rows have cleared a column.
+fn take_lost(
     work: &mut [u64],
     marks: &mut [u8],
     lost: &[u8],
@@ -127,48 +150,37 @@ fn take_columns(
     w: usize,
     rows: usize,
     first: usize,
-    pass: bool,
 ) -> usize
-    requires { ⌜ ColumnsIn n w first rows (now lost) (now work) (now marks) ⌝ }
-    ensures { λ r. ⌜ Goes n w rows (now (lost .entry)) pass 0 n first (now (work .entry)) (now (marks .entry)) r (now (work .exit)) (now (marks .exit)) ⌝ }
+    requires { ⌜ ColumnsIn n w rows (now work) × (first ≤ rows) × (n ≤ length (now lost)) × (n ≤ length (now marks)) ⌝ }
+    ensures { λ r. ⌜ Losts n w rows (now (lost .entry)) first (now (work .entry)) (now (marks .entry)) n r (now (work .exit)) (now (marks .exit)) ⌝ }
 {
     let mut top = first;
-    let mut q = 0;
+    let mut q: usize = 0;
     while q < n {
-        if top == rows {
-            return top;
-        }
-        top = take_column(work, marks, lost, n, w, rows, top, q, pass);
+        top = take_if_lost(work, marks, lost, n, w, rows, top, q);
         q += 1;
     }
     top
 }
 
-// Whether the lists are long enough for the search.
-fn long_enough(n: usize, rows: usize, w: usize, lost: &[u8], work: &[u64], marks: &[u8]) -> bool
-    requires { ⌜ w ≡ wordsFor n ⌝ }
+// Whether sizes and lists fit for the search.
+fn long_enough(n: usize, rows: usize, lost: &[u8], work: &[u64], marks: &[u8]) -> bool
     ensures { λ r. ⌜ r ≡ enough n rows (now (lost .entry)) (now (work .entry)) (now (marks .entry)) ⌝ }
 {
-    if n > 1024 {
-        return false;
-    }
-    if rows > 512 {
-        return false;
-    }
-    (rows * w <= work.len()) & (n <= lost.len()) & (n <= marks.len())
+    (n <= 1024) & (rows <= 512) & (10240 <= work.len()) & (n <= lost.len()) & (n <= marks.len())
 }
 
-// Marks the fixed qubits of the first `rows` rows of `n` columns that `work` holds, by clearing the columns that are not lost and then the
-// lost ones. Answers whether the lists are long enough; if not, nothing is marked.
-pub fn mark_fixed(n: u16, rows: usize, lost: &[u8], work: &mut [u64], marks: &mut [u8]) -> bool
+// Marks the fixed qubits of the first `rows` rows of `n` columns that `work` holds. Nothing is written where sizes or lists do not fit.
+pub fn mark_fixed(n: u16, rows: usize, lost: &[u8], work: &mut [u64], marks: &mut [u8]) -> Search
     ensures { λ r. ⌜ Marked n rows (now (lost .entry)) (now (work .entry)) (now (marks .entry)) (now (work .exit)) (now (marks .exit)) r ⌝ }
 {
     let columns = n as usize;
-    let w = packing::words_for(n);
-    if !long_enough(columns, rows, w, lost, work, marks) {
-        return false;
+    if !long_enough(columns, rows, lost, work, marks) {
+        return Search::Short;
     }
-    let top = take_columns(work, marks, lost, columns, w, rows, 0, false);
-    take_columns(work, marks, lost, columns, w, rows, top, true);
-    true
+    let w = packing::words_for(n);
+    numbering::start(work, w, rows, columns, lost);
+    let known = take_known(work, columns, w, rows);
+    let all = take_lost(work, marks, lost, columns, w, rows, known);
+    Search::Made(Cleared { known, all })
 }

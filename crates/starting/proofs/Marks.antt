@@ -3,7 +3,7 @@ use mathlib.Core.Path.{_≡_, refl, sym, ap, _∙_, fun-ext}
 use mathlib.Core.Bool.{Bool, true, false, cond}
 use mathlib.Core.Logic.{⊎-elim}
 use mathlib.Core.List.{List}
-use Prim.Native.Nat.{ℕ, _*_, _≤_, _<_}
+use Prim.Native.Nat.{ℕ, _≤_, _<_}
 use native.Mathlib.Omega.{arith}
 use lib.Dec.{eqb, ltb}
 use lib.ListN.{length, getD}
@@ -13,8 +13,7 @@ use Rattle.binary.specs.Words.{listed}
 use Rattle.binary.proofs.Bits.{never, and-out}
 use Rattle.binary.proofs.Elimination.{fixed-lost}
 use Rattle.binary.proofs.WordBits.{order}
-use Rattle.packing.specs.Packed.{wordsFor}
-use Rattle.packing.proofs.Rows.{few-words}
+use Rattle.search.specs.declared.Search.{Search}
 use Rattle.search.specs.Marked.{Marked, enough}
 use Rattle.code.specs.Lists.{rowsFrom}
 use Rattle.code.specs.Tests.{Ascending}
@@ -58,24 +57,21 @@ module _ (n : ℕ) (lost marks : List ℕ) where
         same false = refl
 
 -- The fixed qubits marked where every lost qubit is open.
-module _ (n : ℕ) (flat ends lost : List ℕ) (other others : ℕ) (marks marks′ work work₁ work₂ : List ℕ) (r : Bool)
+module _ (n : ℕ) (flat ends lost : List ℕ) (other others : ℕ) (marks marks′ work work₁ work₂ : List ℕ) (r : Search)
     (packed : PackedFrom n flat ends other others work work₁) (fixes : Marked n others lost work₁ marks work₂ marks′ r) where
   abbrev rs : List Row
   rs = rowsFrom flat ends other others
 
-  pub long-enough : n ≤ 1024 → others ≤ 512 → 8192 ≤ length work → n ≤ length lost → n ≤ length marks → r ≡ true
+  pub long-enough : n ≤ 1024 → others ≤ 512 → 10240 ≤ length work → n ≤ length lost → n ≤ length marks → enough n others lost work₁ marks ≡ true
   unfolding enough
   long-enough a b d e f =
-      let w : wordsFor n ≤ 16 = omega arith in
-      let g = few-words others (wordsFor n) b w in
       let i = packed .long in
-      fixes .answer
-      ∙ rw (le-leb n 1024 a, le-leb others 512 b, le-leb (others * wordsFor n) (length work₁) (omega arith), le-leb n (length lost) e, le-leb n (length marks) f)
+      rw (le-leb n 1024 a, le-leb others 512 b, le-leb 10240 (length work₁) (omega arith), le-leb n (length lost) e, le-leb n (length marks) f)
 
-  pub fixed-marks : r ≡ true → ((q : ℕ) → q < n → getD marks q 0 ≡ openMark n lost q) → All (Ascending n) rs
+  pub fixed-marks : enough n others lost work₁ marks ≡ true → ((q : ℕ) → q < n → getD marks q 0 ≡ openMark n lost q) → All (Ascending n) rs
       → view n marks′ ≡ startMark (listed n lost) (fixed? n rs (listed n lost))
   fixed-marks ready opened good =
       marks-are n lost marks′ (fixed? n rs (listed n lost)) λ q l.
-      fixes .marked ready rs (rows-count flat ends other others) (packed .packed) (rows-below n rs good) q l
+      fixes .made ready .3 rs (rows-count flat ends other others) (packed .packed) (rows-below n rs good) .marked q l
       ∙ ap (cond (fixed? n rs (listed n lost) q) 1) (opened q l)
       ∙ start-mark (listed n lost q) (fixed? n rs (listed n lost) q) (fixed-lost n rs (listed n lost) (rows-below n rs good) q)

@@ -29,6 +29,7 @@ use Rattle.filling.specs.Filling as filling
 use Rattle.filling.specs.Filling.{Fills}
 use Rattle.peeling.specs.Peeling as peeling
 use Rattle.peeling.specs.Peeling.{Peels, Ready, rowsIn}
+use Rattle.search.specs.declared.Search.{Search}
 use Rattle.search.specs.Marked.{Marked}
 use Rattle.guessing.specs.Guessing.{degreeOf, countable?, Counts}
 use Rattle.guessing.proofs.Choices.{counted-rule}
@@ -167,7 +168,7 @@ module _ (n : ℕ) (c : RowLists) (lost work work₁ work₂ work₃ marks marks
 ----------------------------------------------------------------------
 -- The search
 
-module _ (n : ℕ) (c : RowLists) (lost : List ℕ) (other others : ℕ) (work work₁ work₂ work₃ work₄ marks marks′ : List ℕ) (r : Bool) (size : n ≤ 1024) (many : others ≤ 512)
+module _ (n : ℕ) (c : RowLists) (lost : List ℕ) (other others : ℕ) (work work₁ work₂ work₃ work₄ marks marks′ : List ℕ) (r : Search) (size : n ≤ 1024) (many : others ≤ 512)
     (words : 10240 ≤ length work) (long : n ≤ length lost) (room : n ≤ length marks)
     (packed : PackedFrom n (c .flat) (c .ends) other others work work₁) (fixes : Marked n others lost work₁ marks work₂ marks′ r)
     (filled : Fills n c marks′ work₂ work₃) (counts : Counts n (c .flat) (c .ends) (c .lit) (c .first) (c .count) work₃ work₄) where

@@ -1,7 +1,8 @@
 -- `search::clear_column` meets its contract. Assumes nothing.
+use Prim.Native.Nat.{_<_}
+use native.Mathlib.Nat.{mul-le-mul-right}
 use native.Mathlib.Omega.{arith}
-use Rattle.packing.proofs.Rows.{apart}
-use Rattle.search.proofs.Columns.{clears-none, clears-top, clears-moved}
+use Rattle.search.proofs.Rows.{one-less, adds-out, clears-none, clears-top, clears-moved}
 use borrow.Author.Needs.{needs}
 use Rattle.search.proofs.clear_column.Statement.{statement}
 use Rattle.search.proofs.clear_column.Tie as tie
@@ -15,30 +16,64 @@ same-length c = search needs
 returns : tie.Need-returns
 returns c = clears-none _ _ _ _ _ _ (c .before .find-row .ensures) (c .if1 .taken)
 
+sub-add-later : tie.Need-sub-add-later
+sub-add-later c =
+    let a = c .before .before .before .before .before .args in
+    let f = c .before .before .find-row in
+    let within : f .result < a .rows = omega (arith, f .ensures .within, c .before .if1 .left) in
+    omega (arith, c .before .before .before .before .before .pre .1, one-less (a .w) (a .top) (a .rows) (a .q) (a .m .now) (f .result) (f .ensures) within)
+
 add-later-requires : tie.Need-add-later-requires
-add-later-requires c κs = search needs
+add-later-requires c κs =
+    let a = c .before .before .before .before .before .args in
+    let p = c .before .before .before .before .before .pre in
+    let f = c .before .before .find-row in
+    let within : f .result < a .rows = omega (arith, f .ensures .within, c .before .if1 .left) in
+    (within, (p .0 .0, f .ensures .within, p .0 .2, p .0 .3, p .0 .4, p .0 .5), omega (arith, p .1, one-less (a .w) (a .top) (a .rows) (a .q) (a .m .now) (f .result) (f .ensures) within))
+
+add-row-requires : tie.Need-add-row-requires
+add-row-requires c κs = search needs
 
 same-length-2 : tie.Need-same-length-2
 same-length-2 c = search needs
 
 returns-2 : tie.Need-returns-2
-returns-2 c = clears-top _ _ _ _ _ _ _ (search needs) (c .before .before .before .before .before .before .find-row .ensures) (search needs) (search needs) (c .if2 .taken)
+returns-2 c =
+    let a = c .before .before .before .before .before .before .before .before .before .before .before .before .before .args in
+    let p = c .before .before .before .before .before .before .before .before .before .before .before .before .before .pre .0 in
+    let f = c .before .before .before .before .before .before .before .before .before .before .find-row in
+    let l = c .before .before .before .before .before .before .before .add-later in
+    let within : f .result < a .rows = omega (arith, f .ensures .within, c .before .before .before .before .before .before .before .before .before .if1 .left) in
+    clears-top (a .w) (a .top) (a .rows) (a .q) (f .result) (a .m .now) _ _ (p .2) (p .3) (p .0) (f .ensures) within (l .ensures)
+    (adds-out (a .w) (f .result) (f .result) _ _ (p .2) (omega (arith, p .3)) (omega (arith, p .3)) (omega (arith, p .5, l .kept .0)) (c .before .before .before .add-row .ensures)) (c .if2 .taken)
 
-join-row-requires : tie.Need-join-row-requires
-join-row-requires c κs =
-    let f = c .before .before .before .before .before .before .before in
-    let a = f .before .before .before .args in
-    let i = f .find-row .result in
-    omega (arith, apart (a .w) i (a .rows) (search needs), apart (a .w) (a .top) i (search needs))
+mul-copy-words : tie.Need-mul-copy-words
+mul-copy-words c =
+    let a = c .before .before .before .before .before .before .before .before .before .before .before .before .before .before .args in
+    let p = c .before .before .before .before .before .before .before .before .before .before .before .before .before .before .pre .0 in
+    omega (arith, p .4, mul-le-mul-right {m = a .top} {n = a .rows} (a .w) (p .1))
+
+mul-copy-words-2 : tie.Need-mul-copy-words-2
+mul-copy-words-2 c =
+    let a = c .before .before .before .before .before .before .before .before .before .before .before .before .before .before .args in
+    let f = c .before .before .before .before .before .before .before .before .before .before .before .find-row in
+    omega (arith, c .before .before .before .before .before .before .before .before .before .before .before .before .before .before .pre .0 .4, mul-le-mul-right {m = f .result} {n = a .rows} (a .w) (f .ensures .within))
+
+copy-words-requires : tie.Need-copy-words-requires
+copy-words-requires c κs = search needs
 
 same-length-3 : tie.Need-same-length-3
 same-length-3 c = search needs
 
 returns-3 : tie.Need-returns-3
 returns-3 c =
-    let l = c .before .before .before .before .before .before .before in
-    let f = l .before .before .before .find-row in
-    clears-moved _ _ _ _ _ _ _ (search needs) (f .ensures) (search needs) (l .add-later .ensures) _ (search needs) (c .before .before .join-row .ensures)
+    let a = c .before .before .before .before .before .before .before .before .before .before .before .before .before .before .before .before .before .args in
+    let p = c .before .before .before .before .before .before .before .before .before .before .before .before .before .before .before .before .before .pre .0 in
+    let f = c .before .before .before .before .before .before .before .before .before .before .before .before .before .before .find-row in
+    let l = c .before .before .before .before .before .before .before .before .before .before .before .add-later in
+    let within : f .result < a .rows = omega (arith, f .ensures .within, c .before .before .before .before .before .before .before .before .before .before .before .before .before .if1 .left) in
+    clears-moved (a .w) (a .top) (a .rows) (a .q) (f .result) (a .m .now) _ _ (p .2) (p .3) (p .0) (f .ensures) within (l .ensures)
+    (adds-out (a .w) (f .result) (f .result) _ _ (p .2) (omega (arith, p .3)) (omega (arith, p .3)) (omega (arith, p .5, l .kept .0)) (c .before .before .before .before .before .before .before .add-row .ensures)) _ (c .before .before .before .before .if2 .left) (p .5) (c .before .before .copy-words .ensures)
 
 pub clear-column-spec : {M : Type 1} → statement M
 clear-column-spec =
@@ -47,9 +82,13 @@ clear-column-spec =
     find-row-requires
     same-length
     returns
+    sub-add-later
     add-later-requires
+    add-row-requires
     same-length-2
     returns-2
-    join-row-requires
+    mul-copy-words
+    mul-copy-words-2
+    copy-words-requires
     same-length-3
     returns-3)

@@ -5,7 +5,7 @@ use Prim.Native.Nat.{ℕ, _-_, _≤_, _<_}
 use native.Mathlib.Omega.{arith}
 use Rattle.packing.specs.Packed.{cell}
 use Rattle.packing.proofs.Rows.{apart}
-use Rattle.search.proofs.Columns.{none-more}
+use Rattle.search.proofs.Rows.{none-more}
 use Rattle.search.proofs.find_row.Statement.{statement}
 use Rattle.search.proofs.find_row.Tie as tie
 

@@ -1,0 +1,5 @@
+pub mod Planes
+pub mod HighPlanes
+pub mod Narrowing
+pub mod Words
+pub mod Taking

@@ -1,0 +1,39 @@
+-- Laws of weighted sums. Assumes nothing.
+use mathlib.Core.Path.{_≡_, refl, ap, ap₂}
+use mathlib.Core.Bool.{Bool, false, cond}
+use mathlib.Core.Logic.{⊎-elim}
+use Prim.Native.Nat.{ℕ, zero, suc, _+_, _^_, _<_}
+use native.Mathlib.Nat.{not-suc-le-zero, le-of-suc-le-suc, eq-or-lt-of-le, pow-succ'}
+use native.Mathlib.Omega.{arith}
+use Rattle.binary.proofs.Bits.{bit}
+use Rattle.columns.specs.Planes.{weigh}
+
+pub weigh-same : (f : ℕ → ℕ) (n : ℕ) (t t′ : ℕ → Bool) → ((p : ℕ) → p < n → t′ p ≡ t p) → weigh f n t′ ≡ weigh f n t
+weigh-same f zero t t′ h = refl
+weigh-same f (suc n) t t′ h =
+    ap₂ _+_ (ap (λ (b : Bool). cond b (f n) 0) (h n (omega arith))) (weigh-same f n t t′ (λ p l. h p (omega arith)))
+
+pub weigh-none : (f : ℕ → ℕ) (n : ℕ) (t : ℕ → Bool) → ((p : ℕ) → p < n → t p ≡ false) → weigh f n t ≡ 0
+weigh-none f zero t h = refl
+weigh-none f (suc n) t h = ap₂ _+_ (ap (λ (b : Bool). cond b (f n) 0) (h n (omega arith))) (weigh-none f n t (λ p l. h p (omega arith)))
+
+-- Two tests that differ at p alone.
+pub weigh-change : (f : ℕ → ℕ) (n p : ℕ) (t t′ : ℕ → Bool) → p < n → ((q : ℕ) → (q ≡ p → ⊥) → t′ q ≡ t q)
+    → weigh f n t′ + cond (t p) (f p) 0 ≡ weigh f n t + cond (t′ p) (f p) 0
+weigh-change f zero p t t′ l h = absurd (not-suc-le-zero l)
+weigh-change f (suc n) p t t′ l h =
+    ⊎-elim
+    (λ (e : p ≡ n). let rest = weigh-same f n t t′ (λ q i. h q (λ j. absurd (omega arith))) in
+    rw e (omega (arith, rest)))
+    (λ (e : p < n). let rest = weigh-change f n p t t′ e h in
+    let same = ap (λ (b : Bool). cond b (f n) 0) (h n (λ j. absurd (omega arith))) in
+    omega (arith, rest, same))
+    (eq-or-lt-of-le (le-of-suc-le-suc l))
+
+-- A number of so many bits.
+pub bits-few : (n : ℕ) (t : ℕ → Bool) → weigh (λ p. 2 ^ p) n t < 2 ^ n
+bits-few zero t = omega arith
+bits-few (suc n) t =
+    let rest = bits-few n t in
+    let d = pow-succ' 2 n in
+    bit (t n) (λ e. rw e (omega (arith, rest, d))) (λ e. rw e (omega (arith, rest, d)))

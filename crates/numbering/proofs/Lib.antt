@@ -1,0 +1,4 @@
+pub mod Carries
+pub mod Known
+pub mod Counting
+pub mod Numbered

@@ -1,0 +1,104 @@
+-- The numbers of the untaken columns stay how many rows have them. Assumes nothing.
+use mathlib.Core.Path.{_≡_, refl, sym, ap, _∙_}
+use mathlib.Core.Bool.{Bool, true, false, cond, _&&_}
+use mathlib.Core.Logic.{_⊎_, inl, inr}
+use mathlib.Core.List.{List}
+use Prim.Native.Nat.{ℕ, _+_, _*_, _/_, _%_, _≤_, _<_}
+use native.Mathlib.Numerals.{add-one}
+use native.Mathlib.Omega.{arith}
+use borrow.Author.Tests.{le-leb}
+use lib.Dec.{leb}
+use lib.ListN.{getD}
+use Rattle.binary.specs.Bits.{_⊕_, tally}
+use Rattle.binary.specs.Words.{bit}
+use Rattle.binary.proofs.Bits.{count-plus, tally-same, tally-change, tally-few}
+use Rattle.binary.proofs.WordBits.{order}
+use Rattle.packing.specs.Packed.{cell}
+use Rattle.packing.proofs.Rows.{apart}
+use Rattle.columns.specs.Planes.{Carried, number}
+use Rattle.columns.specs.Columns.{untaken, rowsWith, Numbered}
+use Rattle.columns.proofs.Numbers.{number-few}
+use Rattle.numbering.specs.Numbering.{Stays, Added, NumberedRow, NumberedRows}
+use Rattle.numbering.proofs.Counting.{row-ends}
+
+pub untaken-same : (m m′ : List ℕ) → Stays m m′ → (c : ℕ) → untaken m′ c ≡ untaken m c
+unfolding untaken
+untaken-same m m′ s c = ap (λ (x : ℕ). bit x (c % 64)) (s (8448 + c / 64) (omega arith))
+
+pub cell-same : (w i c : ℕ) (m m′ : List ℕ) → c < 64 * w → getD m′ (i * w + c / 64) 0 ≡ getD m (i * w + c / 64) 0 → cell m′ w i c ≡ cell m w i c
+unfolding cell
+cell-same w i c m m′ h e = ap (λ (x : ℕ). bit x (c % 64)) e
+
+----------------------------------------------------------------------
+-- The rows counted one by one
+
+module _ (w : ℕ) (wide : w ≤ 16) where
+  pub rows-none : (m : List ℕ) → NumberedRows w 0 m m
+  rows-none m = record { long = refl; kept = λ k h. refl; stays = λ k h. refl; numbered = λ z c h u. z c h }
+
+  pub rows-more : (i : ℕ) (m₀ m m′ : List ℕ) → i < 512 → NumberedRows w i m₀ m → NumberedRow w i m m′ → NumberedRows w (i + 1) m₀ m′
+  rows-more i m₀ m m′ few s t =
+      record {
+        long = t .long ∙ s .long;
+        kept = λ k h. t .kept k h ∙ s .kept k h;
+        stays = λ k h. t .stays k h ∙ s .stays k h;
+        numbered = λ z c h u. let u′ = sym (untaken-same m m′ (t .stays) c) ∙ u in
+            let n = s .numbered z c h u′ in
+            let y = t .numbers c h u′ in
+            step c h (y .0) n (y .1);
+      }
+    where
+      cells : (c : ℕ) → c < 64 * w → (j : ℕ) → j < 512 → cell m′ w j c ≡ cell m w j c
+      cells c h j l = cell-same w j c m m′ h (t .kept (j * w + c / 64) (omega (arith, row-ends w j wide l)))
+
+      grown : (c : ℕ) → c < 64 * w → rowsWith m′ w 0 (i + 1) c ≡ rowsWith m w 0 i c + cond (cell m w i c) 1 0
+      grown c h =
+          rw (add-one, count-plus (leb 0 i && cell m′ w i c) (tally i (λ j. leb 0 j && cell m′ w j c)), le-leb 0 i (omega arith), cells c h i few)
+          (ap (_+ cond (cell m w i c) 1 0) (tally-same i (λ j. leb 0 j && cell m w j c) (λ j. leb 0 j && cell m′ w j c)
+          (λ j l. ap (λ (b : Bool). leb 0 j && b) (cells c h j (omega arith)))))
+
+      step : (c : ℕ) → c < 64 * w → (x : Bool) → number m c ≡ rowsWith m w 0 i c
+          → Carried false (cond (cell m w i c) 1 0) (cond x 1024 0) (number m c) (number m′ c) → number m′ c ≡ rowsWith m′ w 0 (i + 1) c
+      step c h x n e =
+          let a = tally-few i (λ j. leb 0 j && cell m w j c) in
+          rw (grown c h) (past x (cell m w i c) (number m c) (number m′ c) (rowsWith m w 0 i c) (omega arith) n e)
+        where
+          past : (x b : Bool) (old new r : ℕ) → r ≤ 512 → old ≡ r → new + cond x 1024 0 ≡ old + cond b 1 0 → new ≡ r + cond b 1 0
+          past true true old new r l n e = absurd (omega (arith, n, e))
+          past true false old new r l n e = absurd (omega (arith, n, e))
+          past false b old new r l n e = omega (arith, n, e)
+
+----------------------------------------------------------------------
+-- A row added
+
+-- The row to which another is added, and how often one of its columns is counted: t before, u in the other row.
+followed : (x t u : Bool) (old new a a′ : ℕ) → a ≤ 512 → new < 1024 → old ≡ a → a′ + cond t 1 0 ≡ a + cond (t ⊕ u) 1 0
+    → Carried t (cond u 1 0) (cond x 1024 0) old new → new ≡ a′
+followed true true true old new a a′ l b n s e = absurd (omega (arith, n, s, e))
+followed true true false old new a a′ l b n s e = absurd (omega (arith, n, s, e))
+followed true false true old new a a′ l b n s e = absurd (omega (arith, n, s, e))
+followed true false false old new a a′ l b n s e = absurd (omega (arith, n, s, e))
+followed false true true old new a a′ l b n s e = omega (arith, n, s, e)
+followed false true false old new a a′ l b n s e = omega (arith, n, s, e)
+followed false false true old new a a′ l b n s e = omega (arith, n, s, e)
+followed false false false old new a a′ l b n s e = omega (arith, n, s, e)
+
+pub numbered-added : (w top rows from to : ℕ) (m m′ : List ℕ) → w ≤ 16 → rows ≤ 512 → top ≤ to → to < rows
+    → Added w from to m m′ → Numbered w top rows m → Numbered w top rows m′
+numbered-added w top rows from to m m′ wide few low within s n c h u =
+    let u′ = sym (untaken-same m m′ (s .stays) c) ∙ u in
+    let y = s .numbers c h u′ in
+    followed (y .0) (cell m w to c) (cell m w from c) (number m c) (number m′ c) (rowsWith m w top rows c) (rowsWith m′ w top rows c)
+    (omega (arith, tally-few rows (λ i. leb top i && cell m w i c))) (number-few m′ c) (n c h u′) changed (y .1)
+  where
+    other : (i : ℕ) → i < rows → (i ≡ to → ⊥) → cell m′ w i c ≡ cell m w i c
+    other i l e = cell-same w i c m m′ h (s .kept (i * w + c / 64) (omega (arith, row-ends w i wide (omega arith))) (side (order i to)))
+      where
+        side : (i < to) ⊎ (to ≤ i) → (i * w + c / 64 < to * w) ⊎ (to * w + w ≤ i * w + c / 64)
+        side (inl p) = inl (omega (arith, apart w i to p))
+        side (inr p) = inr (omega (arith, apart w to i (omega arith)))
+
+    changed : rowsWith m′ w top rows c + cond (cell m w to c) 1 0 ≡ rowsWith m w top rows c + cond (cell m w to c ⊕ cell m w from c) 1 0
+    changed =
+        rw (← s .cells c h) (rw (le-leb top to low) at (tally-change rows to (λ i. leb top i && cell m w i c) (λ i. leb top i && cell m′ w i c) within
+        (λ i l e. ap (λ (b : Bool). leb top i && b) (other i l e))))
