@@ -1,9 +1,9 @@
 -- Laws of bits and of finite tests. Assumes nothing.
 use mathlib.Core.Path.{_≡_, refl, sym, ap, ap₂, _∙_, subst}
-use mathlib.Core.Bool.{Bool, true, false, not, cond, _&&_, _||_, true≢false, Bool·beq}
+use mathlib.Core.Bool.{Bool, true, false, not, _&&_, _||_, true≢false, Bool·beq}
 use mathlib.Core.Logic.{⊎-elim}
 use lib.Dec.{T, eqb, eqb→eq, eqb·suc-suc}
-use Prim.Native.Nat.{ℕ, zero, suc, _+_, _≤_, _<_}
+use Prim.Native.Nat.{ℕ, zero, suc, _≤_, _<_}
 use native.Mathlib.Nat.{not-suc-le-zero, le-of-suc-le-suc, eq-or-lt-of-le}
 use native.Mathlib.Omega.{arith}
 use Rattle.binary.specs.Bits.{_⊕_, below, count, tally}
@@ -145,6 +145,10 @@ pub eq-eqb : (p : ℕ) → eqb p p ≡ true
 eq-eqb zero = refl
 eq-eqb (suc p) = eqb·suc-suc p p ∙ eq-eqb p
 
+pub eqb-sym : (p q : ℕ) → eqb p q ≡ eqb q p
+eqb-sym p q =
+    iff-eq (eqb p q) (eqb q p) (λ e. rw (eqb-eq p q e) (eq-eqb q)) (λ e. rw (eqb-eq q p e) (eq-eqb p))
+
 pub eqb-differ : (p q : ℕ) → (p ≡ q → ⊥) → eqb p q ≡ false
 eqb-differ p q h = bit (eqb p q) (λ e. absurd (h (eqb-eq p q e))) (λ e. e)
 
@@ -190,22 +194,6 @@ tally-up (suc n) p f f′ l a b h =
     slide : (x : Bool) (k : ℕ) → count x (suc k) ≡ suc (count x k)
     slide true k = refl
     slide false k = refl
-
-pub count-plus : (b : Bool) (k : ℕ) → count b k ≡ k + cond b 1 0
-count-plus true k = omega arith
-count-plus false k = omega arith
-
-pub tally-change : (n p : ℕ) (f f′ : ℕ → Bool) → p < n → ((q : ℕ) → q < n → (q ≡ p → ⊥) → f′ q ≡ f q)
-    → tally n f′ + cond (f p) 1 0 ≡ tally n f + cond (f′ p) 1 0
-tally-change zero p f f′ l h = absurd (not-suc-le-zero l)
-tally-change (suc n) p f f′ l h =
-    ⊎-elim
-    (λ (e : p ≡ n). let rest = tally-same n f f′ (λ q i. h q (omega arith) (λ j. absurd (omega arith))) in
-    rw (e, count-plus (f′ n) (tally n f′), count-plus (f n) (tally n f)) (omega (arith, rest)))
-    (λ (e : p < n). let rest = tally-change n p f f′ e (λ q i. h q (omega arith)) in
-    let same = ap {B = ℕ} (λ (b : Bool). cond b 1 0) (h n (omega arith) (λ j. absurd (omega arith))) in
-    rw (count-plus (f′ n) (tally n f′), count-plus (f n) (tally n f)) (omega (arith, rest, same)))
-    (eq-or-lt-of-le (le-of-suc-le-suc l))
 
 pub tally-few : (n : ℕ) (f : ℕ → Bool) → tally n f ≤ n
 tally-few zero f = omega arith

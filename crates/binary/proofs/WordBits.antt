@@ -6,12 +6,13 @@ use Prim.Native.Nat.{ℕ, zero, suc, _+_, _-_, _*_, _/_, _%_, _^_, _≤_, _<_}
 use native.Mathlib.Nat.{eq-zero-or-pos, lt-of-lt-of-le, div-eq-of-lt, div-self, zero-div, mod-self, one-mul}
 use native.Mathlib.Decide.{decLt, ℕ-discrete}
 use native.Mathlib.Omega.{arith}
-use borrow.Author.Tests.{eq-eqb, ne-eqb}
+use borrow.Author.Tests.{eq-eqb, ne-eqb, eqb-true}
 use lib.Dec.{eqb, lit<, eqb·suc-zero}
 use lib.Pow.{pow-pos, pow-lt, pow-mono, shr-shr, field, mod-mod-pow, shl-exact}
 use lib.Bits.{bitAnd, bitOr, bitXor, and-shr, and-mod, or-shr, or-mod, xor-shr, xor-mod}
 use Rattle.binary.specs.Bits.{_⊕_}
 use Rattle.binary.specs.Words.{bit}
+use Rattle.binary.proofs.Bits.{iff-eq}
 
 pub order : (a b : ℕ) → (a < b) ⊎ (b ≤ a)
 order a b = go (decLt a b)
@@ -96,3 +97,17 @@ bit-pow g k = go (ℕ-discrete g k)
 -- The code's `1 << k`.
 pub one-shl : (k : ℕ) → k < 64 → 1 * 2 ^ k % 2 ^ 64 ≡ 2 ^ k
 one-shl k h = shl-exact 1 k 64 (lit< tt) (omega arith) ∙ one-mul (2 ^ k)
+
+-- The code's `x | (1 << g)` and `x ^ (1 << g)`.
+pub bit-set : (x g k : ℕ) → g < 64 → bit (bitOr x (1 * 2 ^ g % 2 ^ 64)) k ≡ (bit x k || eqb g k)
+bit-set x g k h = rw (one-shl g h) (bit-or x (2 ^ g) k ∙ ap (λ (b : Bool). bit x k || b) (bit-pow g k))
+
+pub bit-flipped : (x g k : ℕ) → g < 64 → bit (bitXor x (1 * 2 ^ g % 2 ^ 64)) k ≡ bit x k ⊕ eqb g k
+bit-flipped x g k h = rw (one-shl g h) (bit-xor x (2 ^ g) k ∙ ap (λ (b : Bool). bit x k ⊕ b) (bit-pow g k))
+
+-- Numbers whose bits lie in one word are told by their places in it.
+pub same-digit : (q c : ℕ) → c / 64 ≡ q / 64 → eqb (q % 64) (c % 64) ≡ eqb q c
+same-digit q c e =
+    iff-eq (eqb (q % 64) (c % 64)) (eqb q c)
+    (λ t. let d : q % 64 ≡ c % 64 = eqb-true (q % 64) (c % 64) t in eq-eqb q c (omega arith))
+    (λ t. let d : q ≡ c = eqb-true q c t in eq-eqb (q % 64) (c % 64) (omega arith))

@@ -12,8 +12,8 @@ use lib.Seq.{getD-set-same, getD-set-other}
 use borrow.Author.Tests.{eq-eqb, eqb-true}
 use Rattle.binary.specs.Bits.{_⊕_}
 use Rattle.binary.specs.Words
-use Rattle.binary.proofs.Bits.{⊕-false, iff-eq, and-out, bit}
-use Rattle.binary.proofs.WordBits.{bit-xor, bit-pow, one-shl}
+use Rattle.binary.proofs.Bits.{⊕-false, and-out, bit, eqb-sym}
+use Rattle.binary.proofs.WordBits.{bit-flipped, same-digit}
 use Rattle.bitsets.specs.Bitsets.{inSet, Flipped}
 
 module _ (s i : ℕ) (old : List ℕ) where
@@ -22,11 +22,6 @@ module _ (s i : ℕ) (old : List ℕ) where
 
   abbrev word : ℕ
   word = bitXor (getD old at 0) (1 * 2 ^ (i % 64) % 2 ^ 64)
-
-  word-bits : (k : ℕ) → Words.bit word k ≡ Words.bit (getD old at 0) k ⊕ eqb (i % 64) k
-  word-bits k =
-      ap (λ (x : ℕ). Words.bit (bitXor (getD old at 0) x) k) (one-shl (i % 64) (omega arith))
-      ∙ bit-xor (getD old at 0) (2 ^ (i % 64)) k ∙ ap (λ (b : Bool). Words.bit (getD old at 0) k ⊕ b) (bit-pow (i % 64) k)
 
   apart : (t j : ℕ) → (8 * t + j / 64 ≡ at → ⊥) → (eqb t s && eqb j i) ≡ false
   apart t j e = bit (eqb t s && eqb j i)
@@ -46,9 +41,8 @@ module _ (s i : ℕ) (old : List ℕ) where
       by : (t j : ℕ) → j < 512 → Dec (8 * t + j / 64 ≡ at) → inSet (set old at word) t j ≡ inSet old t j ⊕ (eqb t s && eqb j i)
       by t j h (yes e) =
           let same : t ≡ s = omega arith in
-          let digit : eqb (i % 64) (j % 64) ≡ eqb j i =
-          iff-eq (eqb (i % 64) (j % 64)) (eqb j i) (λ u. let d = eqb-true (i % 64) (j % 64) u in eq-eqb j i (omega arith)) (λ u. let d = eqb-true j i u in eq-eqb (i % 64) (j % 64) (omega arith)) in
-          ap (λ (x : ℕ). Words.bit (getD (set old at word) x 0) (j % 64)) e ∙ ap (λ (x : ℕ). Words.bit x (j % 64)) (getD-set-same old at word 0 inside) ∙ word-bits (j % 64)
+          let digit : eqb (i % 64) (j % 64) ≡ eqb j i = same-digit i j (omega arith) ∙ eqb-sym i j in
+          ap (λ (x : ℕ). Words.bit (getD (set old at word) x 0) (j % 64)) e ∙ ap (λ (x : ℕ). Words.bit x (j % 64)) (getD-set-same old at word 0 inside) ∙ bit-flipped (getD old at 0) (i % 64) (j % 64) (omega arith)
           ∙ ap₂ _⊕_ (ap (λ (x : ℕ). Words.bit (getD old x 0) (j % 64)) (sym e)) (digit ∙ ap (λ (b : Bool). b && eqb j i) (sym (eq-eqb t s same)))
       by t j h (no e) =
           ap (λ (x : ℕ). Words.bit x (j % 64)) (getD-set-other old at (8 * t + j / 64) word 0 e)

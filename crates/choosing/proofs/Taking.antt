@@ -6,15 +6,15 @@ use mathlib.Core.List.{List}
 use Prim.Native.Nat.{ℕ, _+_, _*_, _/_, _%_, _^_, _≤_, _<_}
 use native.Mathlib.Omega.{arith}
 use native.Mathlib.Decide.{ℕ-discrete}
-use borrow.Author.Tests.{leb-true, eq-eqb, eqb-true}
+use borrow.Author.Tests.{leb-true, eqb-true}
 use lib.Bits.{bitXor}
 use lib.Dec.{eqb, leb}
 use lib.ListN.{length, getD, set, length-set}
 use lib.Seq.{getD-set-same, getD-set-other}
 use Rattle.binary.specs.Bits.{_⊕_}
 use Rattle.binary.specs.Words.{bit}
-use Rattle.binary.proofs.Bits.{never, and-out, iff-eq, ⊕-false, eqb-differ}
-use Rattle.binary.proofs.WordBits.{bit-xor, bit-pow, one-shl}
+use Rattle.binary.proofs.Bits.{never, and-out, ⊕-false, eqb-differ}
+use Rattle.binary.proofs.WordBits.{bit-flipped, same-digit}
 use Rattle.columns.specs.Columns.{untaken}
 use Rattle.choosing.specs.declared.Shortest.{Shortest}
 use Rattle.choosing.specs.Choosing.{ShortestOf, room?, Takes}
@@ -60,21 +60,13 @@ module _ (w : ℕ) (m : List ℕ) (r : Shortest) (room : room? (length m) w ≡ 
     pub in-list : at < length m
     in-list = omega (arith, inside, room-out (length m) w room .1)
 
-    word-bits : (b : ℕ) → bit word b ≡ bit (getD m at 0) b ⊕ eqb (r .column % 64) b
-    word-bits b =
-        ap (λ (x : ℕ). bit (bitXor (getD m at 0) x) b) (one-shl (r .column % 64) (omega arith))
-        ∙ bit-xor (getD m at 0) (2 ^ (r .column % 64)) b ∙ ap (λ (x : Bool). bit (getD m at 0) b ⊕ x) (bit-pow (r .column % 64) b)
-
     -- The column is turned over, and it alone.
     turned : (c : ℕ) → Dec (c / 64 ≡ r .column / 64) → untaken (set m at word) c ≡ untaken m c ⊕ eqb (r .column) c
     unfolding untaken
     turned c (yes e) =
-        let d : eqb (r .column % 64) (c % 64) ≡ eqb (r .column) c =
-        iff-eq (eqb (r .column % 64) (c % 64)) (eqb (r .column) c)
-        (λ u. let i = eqb-true (r .column % 64) (c % 64) u in eq-eqb (r .column) c (omega arith))
-        (λ u. let i = eqb-true (r .column) c u in eq-eqb (r .column % 64) (c % 64) (omega arith)) in
         ap (λ (x : ℕ). bit (getD (set m at word) (8448 + x) 0) (c % 64)) e ∙ ap (λ (x : ℕ). bit x (c % 64)) (getD-set-same m at word 0 in-list)
-        ∙ word-bits (c % 64) ∙ ap₂ _⊕_ (ap (λ (x : ℕ). bit (getD m (8448 + x) 0) (c % 64)) (sym e)) d
+        ∙ bit-flipped (getD m at 0) (r .column % 64) (c % 64) (omega arith)
+        ∙ ap₂ _⊕_ (ap (λ (x : ℕ). bit (getD m (8448 + x) 0) (c % 64)) (sym e)) (same-digit (r .column) c e)
     turned c (no e) =
         ap (λ (x : ℕ). bit x (c % 64)) (getD-set-other m at (8448 + c / 64) word 0 (λ i. e (omega arith)))
         ∙ sym (ap (λ (x : Bool). untaken m c ⊕ x) (eqb-differ (r .column) c (λ i. e (omega arith))) ∙ ⊕-false (untaken m c))
@@ -91,7 +83,7 @@ module _ (w : ℕ) (m : List ℕ) (r : Shortest) (room : room? (length m) w ≡ 
         record {
           long = length-set m at word;
           shortest = λ i. s;
-          taken = λ i l c g. turned c (ℕ-discrete (c / 64) (r .column / 64))
+          taken = λ i l c. turned c (ℕ-discrete (c / 64) (r .column / 64))
               ∙ cleared (untaken m c) (eqb (r .column) c) (λ e. ap (untaken m) (sym (eqb-true (r .column) c e)) ∙ s .found h .1);
           kept = λ k i. getD-set-other m at k word 0 (λ e. let l = inside in ⊎-elim (λ (g : k < 8448). omega arith) (λ (g : 8464 ≤ k). omega arith) i);
           none = λ i. absurd (omega arith);

@@ -43,7 +43,7 @@ room? len w = leb w 16 && leb 10240 len
 pub record Takes (w : ℕ) (m m′ : List ℕ) (r : Shortest) : Type 0 where
   pub long : length m′ ≡ length m
   pub shortest : room? (length m) w ≡ true → ShortestOf w m (r .column) (r .rows)
-  pub taken : room? (length m) w ≡ true → r .rows < 1024 → (c : ℕ) → c < 64 * w → untaken m′ c ≡ (untaken m c && not (eqb (r .column) c))
+  pub taken : room? (length m) w ≡ true → r .rows < 1024 → (c : ℕ) → untaken m′ c ≡ (untaken m c && not (eqb (r .column) c))
   pub kept : (k : ℕ) → (k < 8448) ⊎ (8464 ≤ k) → getD m′ k 0 ≡ getD m k 0
   pub none : r .rows ≡ 1024 → m′ ≡ m
   pub refused : room? (length m) w ≡ false → (r ≡ record { column = 0; rows = 1024 }) × (m′ ≡ m)

@@ -1,10 +1,11 @@
--- Laws of weighted sums. Assumes nothing.
+-- Laws of sums of weights. Assumes nothing.
 use mathlib.Core.Path.{_≡_, refl, ap, ap₂}
-use mathlib.Core.Bool.{Bool, false, cond}
+use mathlib.Core.Bool.{Bool, true, false, cond}
 use mathlib.Core.Logic.{⊎-elim}
 use Prim.Native.Nat.{ℕ, zero, suc, _+_, _^_, _<_}
 use native.Mathlib.Nat.{not-suc-le-zero, le-of-suc-le-suc, eq-or-lt-of-le, pow-succ'}
 use native.Mathlib.Omega.{arith}
+use Rattle.binary.specs.Bits.{count, tally}
 use Rattle.binary.proofs.Bits.{bit}
 use Rattle.columns.specs.Planes.{weigh}
 
@@ -18,17 +19,29 @@ weigh-none f zero t h = refl
 weigh-none f (suc n) t h = ap₂ _+_ (ap (λ (b : Bool). cond b (f n) 0) (h n (omega arith))) (weigh-none f n t (λ p l. h p (omega arith)))
 
 -- Two tests that differ at p alone.
-pub weigh-change : (f : ℕ → ℕ) (n p : ℕ) (t t′ : ℕ → Bool) → p < n → ((q : ℕ) → (q ≡ p → ⊥) → t′ q ≡ t q)
+pub weigh-change : (f : ℕ → ℕ) (n p : ℕ) (t t′ : ℕ → Bool) → p < n → ((q : ℕ) → (q ≡ p → ⊥) → q < n → t′ q ≡ t q)
     → weigh f n t′ + cond (t p) (f p) 0 ≡ weigh f n t + cond (t′ p) (f p) 0
 weigh-change f zero p t t′ l h = absurd (not-suc-le-zero l)
 weigh-change f (suc n) p t t′ l h =
     ⊎-elim
-    (λ (e : p ≡ n). let rest = weigh-same f n t t′ (λ q i. h q (λ j. absurd (omega arith))) in
+    (λ (e : p ≡ n). let rest = weigh-same f n t t′ (λ q i. h q (λ j. absurd (omega arith)) (omega arith)) in
     rw e (omega (arith, rest)))
-    (λ (e : p < n). let rest = weigh-change f n p t t′ e h in
-    let same = ap (λ (b : Bool). cond b (f n) 0) (h n (λ j. absurd (omega arith))) in
+    (λ (e : p < n). let rest = weigh-change f n p t t′ e (λ q d i. h q d (omega arith)) in
+    let same = ap (λ (b : Bool). cond b (f n) 0) (h n (λ j. absurd (omega arith)) (omega arith)) in
     omega (arith, rest, same))
     (eq-or-lt-of-le (le-of-suc-le-suc l))
+
+pub count-plus : (b : Bool) (k : ℕ) → count b k ≡ k + cond b 1 0
+count-plus true k = omega arith
+count-plus false k = omega arith
+
+-- A tally is a sum of weights 1.
+tally-weigh : (n : ℕ) (f : ℕ → Bool) → tally n f ≡ weigh (λ p. 1) n f
+tally-weigh zero f = refl
+tally-weigh (suc n) f = let rest = tally-weigh n f in rw (count-plus (f n) (tally n f)) (omega (arith, rest))
+
+pub tally-change : (n p : ℕ) (f f′ : ℕ → Bool) → p < n → ((q : ℕ) → (q ≡ p → ⊥) → q < n → f′ q ≡ f q) → tally n f′ + cond (f p) 1 0 ≡ tally n f + cond (f′ p) 1 0
+tally-change n p f f′ l h = rw (tally-weigh n f, tally-weigh n f′) (weigh-change (λ q. 1) n p f f′ l h)
 
 -- A number of so many bits.
 pub bits-few : (n : ℕ) (t : ℕ → Bool) → weigh (λ p. 2 ^ p) n t < 2 ^ n

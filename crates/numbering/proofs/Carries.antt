@@ -45,7 +45,7 @@ plane-changed : (at p carry : ℕ) (m : List ℕ) → at + p < length m → (e b
 unfolding planes
 plane-changed at p carry m room e b h =
     weigh-change (λ q. 2 ^ q) e p (planes m at b) (planes (set m (at + p) v) at b) h
-    (λ q n. ap (λ (x : ℕ). bit x b) (getD-set-other m (at + p) (at + q) v 0 (λ e. n (omega arith))))
+    (λ q n l. ap (λ (x : ℕ). bit x b) (getD-set-other m (at + p) (at + q) v 0 (λ e. n (omega arith))))
     ∙ ap (λ (x : Bool). numberAt m at b e + cond x (2 ^ p) 0)
     (ap (λ (x : ℕ). bit x b) (getD-set-same m (at + p) v 0 room) ∙ bit-xor (getD m (at + p) 0) carry b)
   where

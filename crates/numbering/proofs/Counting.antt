@@ -12,7 +12,7 @@ use lib.Dec.{leb, ltb}
 use lib.ListN.{length, length-set, getD, set}
 use lib.Seq.{getD-set-same, getD-set-other}
 use Rattle.binary.specs.Words.{bit}
-use Rattle.binary.proofs.Bits.{&&-true, and-in, and-out, never}
+use Rattle.binary.proofs.Bits.{and-in, and-out, never}
 use Rattle.binary.proofs.WordBits.{order, bit-and, bit-xor}
 use Rattle.packing.specs.Packed.{cell}
 use Rattle.packing.proofs.Rows.{apart, few-words}
@@ -31,11 +31,11 @@ number-same m m′ c h = weigh-same (λ p. 2 ^ p) 10 _ _ (λ p l. ap (λ (x : �
 ----------------------------------------------------------------------
 -- Word by word
 
--- The first k words are counted: each untaken column has one more where it is in `into`, or one less where it is in `down` too.
+-- The first k words are counted: each column has one more where it is in `into`, or one less where it is in `down` too.
 pub record Counting (k : ℕ) (down into : ℕ → Bool) (m m′ : List ℕ) : Type 0 where
   pub stays : Stays m m′
   pub later : (j : ℕ) → 8192 + 16 * k ≤ j → j < 8448 → getD m′ j 0 ≡ getD m j 0
-  pub numbers : (c : ℕ) → c < 64 * k → untaken m c ≡ true → (x : Bool) × Carried (down c) (cond (into c) 1 0) (cond x 1024 0) (number m c) (number m′ c)
+  pub numbers : (c : ℕ) → c < 64 * k → (x : Bool) × Carried (down c) (cond (into c) 1 0) (cond x 1024 0) (number m c) (number m′ c)
 
 module _ (down into : ℕ → Bool) (m₀ : List ℕ) where
   pub counting-none : Counting 0 down into m₀ m₀
@@ -45,54 +45,54 @@ module _ (down into : ℕ → Bool) (m₀ : List ℕ) where
     -- From a list with the same planes and untaken columns to one that differs in the planes of word k.
     counting-more : (m₁ m₂ : List ℕ) → ((j : ℕ) → 8192 ≤ j → getD m₁ j 0 ≡ getD m j 0)
         → ((j : ℕ) → (j < 8192 + 16 * k) ⊎ (8192 + 16 * k + 16 ≤ j) → getD m₂ j 0 ≡ getD m₁ j 0)
-        → ((b : ℕ) → b < 64 → untaken m₀ (64 * k + b) ≡ true
+        → ((b : ℕ) → b < 64
         → (x : Bool) × Carried (down (64 * k + b)) (cond (into (64 * k + b)) 1 0) (cond x 1024 0) (number m₁ (64 * k + b)) (number m₂ (64 * k + b)))
         → Counting (k + 1) down into m₀ m₂
     counting-more m₁ m₂ same kept new =
         record {
           stays = λ j h. kept j (inr (omega arith)) ∙ same j (omega arith) ∙ s .stays j h;
           later = λ j h l. kept j (inr (omega arith)) ∙ same j (omega arith) ∙ s .later j (omega arith) l;
-          numbers = λ c h u. ⊎-elim
-              (λ (g : c < 64 * k). let z = s .numbers c g u in (
+          numbers = λ c h. ⊎-elim
+              (λ (g : c < 64 * k). let z = s .numbers c g in (
                 z .0,
                 rw (number-same m m₂ c (λ p l. kept (8192 + 16 * (c / 64) + p) (inl (omega arith)) ∙ same (8192 + 16 * (c / 64) + p) (omega arith))) (z .1),
               ))
-              (λ (g : 64 * k ≤ c). here c h g u)
+              (λ (g : 64 * k ≤ c). here c h g)
               (order c (64 * k));
         }
       where
-        here : (c : ℕ) → c < 64 * (k + 1) → 64 * k ≤ c → untaken m₀ c ≡ true
+        here : (c : ℕ) → c < 64 * (k + 1) → 64 * k ≤ c
             → (x : Bool) × Carried (down c) (cond (into c) 1 0) (cond x 1024 0) (number m₀ c) (number m₂ c)
-        here c h g u =
+        here c h g =
             let e : 64 * k + c % 64 ≡ c = omega arith in
-            let z = new (c % 64) (omega arith) (rw e u) in
+            let z = new (c % 64) (omega arith) in
             let old = number-same m₀ m₁ c (λ p l. same (8192 + 16 * (c / 64) + p) (omega arith) ∙ s .later (8192 + 16 * (c / 64) + p) (omega arith) (omega arith)) in
             (z .0, rw (← old) (subst (λ (x : ℕ). Carried (down x) (cond (into x) 1 0) (cond (z .0) 1024 0) (number m₁ x) (number m₂ x)) e (z .1)))
 
     pub counting-word : (bits other : ℕ) (m₁ m₂ : List ℕ) → ((j : ℕ) → 8192 ≤ j → getD m₁ j 0 ≡ getD m j 0) → Counted k bits other m₁ m₂
-        → ((b : ℕ) → b < 64 → bit other b ≡ down (64 * k + b)) → ((b : ℕ) → b < 64 → untaken m₀ (64 * k + b) ≡ true → bit bits b ≡ into (64 * k + b))
+        → ((b : ℕ) → b < 64 → bit other b ≡ down (64 * k + b)) → ((b : ℕ) → b < 64 → bit bits b ≡ into (64 * k + b))
         → Counting (k + 1) down into m₀ m₂
     counting-word bits other m₁ m₂ same t d i =
-        counting-more m₁ m₂ same (t .kept) (λ b h u. let z = t .sums b h in (
+        counting-more m₁ m₂ same (t .kept) (λ b h. let z = t .sums b h in (
           z .0,
           subst (λ (x : Bool). Carried x (cond (into (64 * k + b)) 1 0) (cond (z .0) 1024 0) (number m₁ (64 * k + b)) (number m₂ (64 * k + b))) (d b h)
-              (subst (λ (x : Bool). Carried (bit other b) (cond x 1 0) (cond (z .0) 1024 0) (number m₁ (64 * k + b)) (number m₂ (64 * k + b))) (i b h u) (z .1)),
+              (subst (λ (x : Bool). Carried (bit other b) (cond x 1 0) (cond (z .0) 1024 0) (number m₁ (64 * k + b)) (number m₂ (64 * k + b))) (i b h) (z .1)),
         ))
 
-    -- No untaken column of the word is to be counted.
-    pub counting-skipped : ((b : ℕ) → b < 64 → untaken m₀ (64 * k + b) ≡ true → into (64 * k + b) ≡ false) → Counting (k + 1) down into m₀ m
+    -- No column of the word is to be counted.
+    pub counting-skipped : ((b : ℕ) → b < 64 → into (64 * k + b) ≡ false) → Counting (k + 1) down into m₀ m
     counting-skipped i =
-        counting-more m m (λ j h. refl) (λ j h. refl) (λ b h u. (false, rw (i b h u) (still (down (64 * k + b)) (number m (64 * k + b)))))
+        counting-more m m (λ j h. refl) (λ j h. refl) (λ b h. (false, rw (i b h) (still (down (64 * k + b)) (number m (64 * k + b)))))
       where
         still : (d : Bool) (x : ℕ) → Carried d 0 0 x x
         still false x = refl
         still true x = refl
 
 -- The untaken bits of a row's word.
-pub untaken-bits : (k : ℕ) (m₀ m : List ℕ) → Stays m₀ m → (word b : ℕ) → b < 64 → untaken m₀ (64 * k + b) ≡ true
-    → bit (bitAnd word (getD m (8448 + k) 0)) b ≡ bit word b
-untaken-bits k m₀ m s word b h u =
-    bit-and word (getD m (8448 + k) 0) b ∙ &&-true (bit word b) (ap (λ (x : ℕ). bit x b) (s (8448 + k) (omega arith)) ∙ sym (untaken-at m₀ k b h) ∙ u)
+pub untaken-bits : (k : ℕ) (m₀ m : List ℕ) → Stays m₀ m → (word b : ℕ) → b < 64
+    → bit (bitAnd word (getD m (8448 + k) 0)) b ≡ (bit word b && untaken m₀ (64 * k + b))
+untaken-bits k m₀ m s word b h =
+    bit-and word (getD m (8448 + k) 0) b ∙ ap (bit word b &&_) (ap (λ (x : ℕ). bit x b) (s (8448 + k) (omega arith)) ∙ sym (untaken-at m₀ k b h))
 
 pub cell-bit : (m : List ℕ) (w i k b : ℕ) → b < 64 → bit (getD m (i * w + k) 0) b ≡ cell m w i (64 * k + b)
 unfolding cell
@@ -101,17 +101,17 @@ cell-bit m w i k b h =
     let e : (64 * k + b) % 64 ≡ b = omega arith in
     rw (d, e)
 
--- Row i, which has not changed, in the untaken columns of a word.
-pub row-bits : (w i k : ℕ) (m₀ m : List ℕ) → i * w + w ≤ 8192 → k < w → ((j : ℕ) → j < 8192 → getD m j 0 ≡ getD m₀ j 0) → Stays m₀ m
-    → (b : ℕ) → b < 64 → untaken m₀ (64 * k + b) ≡ true → bit (bitAnd (getD m (i * w + k) 0) (getD m (8448 + k) 0)) b ≡ cell m₀ w i (64 * k + b)
-row-bits w i k m₀ m ends h kept stays b l u =
-    untaken-bits k m₀ m stays (getD m (i * w + k) 0) b l u ∙ ap (λ (x : ℕ). bit x b) (kept (i * w + k) (omega arith)) ∙ cell-bit m₀ w i k b l
+-- Word k of row i, which has not changed, in the untaken columns.
+pub row-bits : (w i k : ℕ) (m₀ m : List ℕ) → getD m (i * w + k) 0 ≡ getD m₀ (i * w + k) 0 → Stays m₀ m
+    → (b : ℕ) → b < 64 → bit (bitAnd (getD m (i * w + k) 0) (getD m (8448 + k) 0)) b ≡ (cell m₀ w i (64 * k + b) && untaken m₀ (64 * k + b))
+row-bits w i k m₀ m same stays b l =
+    untaken-bits k m₀ m stays (getD m (i * w + k) 0) b l ∙ ap (_&& untaken m₀ (64 * k + b)) (ap (λ (x : ℕ). bit x b) same ∙ cell-bit m₀ w i k b l)
 
 ----------------------------------------------------------------------
 -- A row counted
 
 pub counted-row : (w i : ℕ) (m m′ : List ℕ) → length m′ ≡ length m → ((k : ℕ) → k < 8192 → getD m′ k 0 ≡ getD m k 0)
-    → Counting w (λ c. false) (cell m w i) m m′ → NumberedRow w i m m′
+    → Counting w (λ c. false) (λ c. cell m w i c && untaken m c) m m′ → NumberedRow w i m m′
 counted-row w i m m′ e kept s = record { long = e; kept = kept; stays = s .stays; numbers = s .numbers }
 
 ----------------------------------------------------------------------
@@ -122,11 +122,11 @@ pub record Adding (w from to k : ℕ) (m m′ : List ℕ) : Type 0 where
   pub long : length m′ ≡ length m
   pub words : (j : ℕ) → j < k → getD m′ (to * w + j) 0 ≡ bitXor (getD m (to * w + j) 0) (getD m (from * w + j) 0)
   pub kept : (j : ℕ) → j < 8192 → (j < to * w) ⊎ (to * w + k ≤ j) → getD m′ j 0 ≡ getD m j 0
-  pub counting : Counting k (cell m w to) (cell m w from) m m′
+  pub counting : Counting k (cell m w to) (λ c. cell m w from c && untaken m c) m m′
 
 pub adding-none : (w from to : ℕ) (m : List ℕ) → Adding w from to 0 m m
 adding-none w from to m =
-    record { long = refl; words = λ j h. absurd (omega arith); kept = λ j h l. refl; counting = counting-none (cell m w to) (cell m w from) m }
+    record { long = refl; words = λ j h. absurd (omega arith); kept = λ j h l. refl; counting = counting-none (cell m w to) (λ c. cell m w from c && untaken m c) m }
 
 -- Row i ends before the planes.
 pub row-ends : (w i : ℕ) → w ≤ 16 → i < 512 → i * w + w ≤ 8192
@@ -165,9 +165,9 @@ module _ (w from to k : ℕ) (m₀ m : List ℕ) (wide : w ≤ 16) (low : from *
         kept = λ j l o. t .kept j (inl (omega arith))
             ∙ getD-set-other m (to * w + k) j v 0 (λ e. ⊎-elim (λ (p : j < to * w). omega arith) (λ (p : to * w + (k + 1) ≤ j). omega arith) o)
             ∙ s .kept j l (⊎-elim (λ p. inl p) (λ (p : to * w + (k + 1) ≤ j). inr (omega arith)) o);
-        counting = counting-word (cell m₀ w to) (cell m₀ w from) m₀ k m (s .counting) (omega arith) (bitAnd new (getD m (8448 + k) 0)) old m₁ m₂ above t
+        counting = counting-word (cell m₀ w to) (λ c. cell m₀ w from c && untaken m₀ c) m₀ k m (s .counting) (omega arith) (bitAnd new (getD m (8448 + k) 0)) old m₁ m₂ above t
             (λ b l. ap (λ (x : ℕ). bit x b) old-same ∙ cell-bit m₀ w to k b l)
-            (λ b l u. untaken-bits k m₀ m (s .counting .stays) new b l u ∙ ap (λ (x : ℕ). bit x b) new-same ∙ cell-bit m₀ w from k b l);
+            (row-bits w from k m₀ m new-same (s .counting .stays));
       }
     where
       v : ℕ
@@ -187,6 +187,7 @@ added w from to m m′ s =
       cells = λ c h. ap (λ (x : ℕ). bit x (c % 64)) (s .words (c / 64) (omega arith)) ∙ bit-xor (getD m (to * w + c / 64) 0) (getD m (from * w + c / 64) 0) (c % 64);
       kept = s .kept;
       stays = s .counting .stays;
+      beyond = s .counting .later;
       numbers = s .counting .numbers;
     }
 

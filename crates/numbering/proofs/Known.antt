@@ -1,18 +1,18 @@
 -- The columns that are not lost, as the bits of words. Assumes nothing.
 use mathlib.Core.Path.{_≡_, refl, sym, ap, _∙_}
 use mathlib.Core.Bool.{Bool, true, false, not, _&&_, _||_}
-use mathlib.Core.Logic.{_⊎_, inl, ⊎-elim}
+use mathlib.Core.Logic.{_⊎_, inl, inr, ⊎-elim}
 use mathlib.Core.List.{List}
 use Prim.Native.Nat.{ℕ, _+_, _*_, _/_, _%_, _^_, _≤_, _<_}
 use native.Mathlib.Omega.{arith}
 use borrow.Author.Tests.{eq-eqb, ne-eqb, leb-true}
 use lib.Bits.{bitOr}
-use lib.Dec.{eqb, leb, ltb}
+use lib.Dec.{leb, ltb}
 use lib.ListN.{length, length-set, getD, set}
 use lib.Seq.{getD-set-same, getD-set-other}
 use Rattle.binary.specs.Words.{bit, listed}
 use Rattle.binary.proofs.Bits.{and-out, never}
-use Rattle.binary.proofs.WordBits.{order, bit-or, bit-pow, bit-zero, one-shl}
+use Rattle.binary.proofs.WordBits.{order, bit-set, bit-zero}
 use Rattle.lists.specs.Cleared.{Cleared}
 use Rattle.columns.specs.Planes.{planes}
 use Rattle.columns.specs.Columns.{untaken}
@@ -33,12 +33,9 @@ module _ (n k : ℕ) (lost : List ℕ) where
 
     pub known-yes : e < 64 → r ≡ true → KnownWord n k lost (e + 1) (bitOr word (1 * 2 ^ e % 2 ^ 64))
     known-yes h t =
-        known-more (bitOr word (1 * 2 ^ e % 2 ^ 64)) (each e ∙ rw (eq-eqb e e refl, t) (or-one (bit word e)))
-        (λ b d. each b ∙ rw (ne-eqb e b (λ x. d (sym x))) (or-none (bit word b)))
+        known-more (bitOr word (1 * 2 ^ e % 2 ^ 64)) (bit-set word e e h ∙ rw (eq-eqb e e refl, t) (or-one (bit word e)))
+        (λ b d. bit-set word e b h ∙ rw (ne-eqb e b (λ x. d (sym x))) (or-none (bit word b)))
       where
-        each : (b : ℕ) → bit (bitOr word (1 * 2 ^ e % 2 ^ 64)) b ≡ (bit word b || eqb e b)
-        each b = rw (one-shl e h) (bit-or word (2 ^ e) b ∙ ap (λ (x : Bool). bit word b || x) (bit-pow e b))
-
         or-one : (x : Bool) → (x || true) ≡ true
         or-one true = refl
         or-one false = refl
@@ -97,6 +94,7 @@ all-started w rows n lost m m₁ m₂ m′ t a b d =
       started = λ _. record {
         long = d .long ∙ b .long ∙ a .long;
         kept = λ k h. d .kept k h ∙ b .kept k (inl (omega arith)) ∙ a .outside k (inl h);
+        past = λ k h. d .stays k (omega arith) ∙ b .kept k (inr h) ∙ a .outside k (inr (omega (arith, startable-out w rows n (length lost) (length m) t .0)));
         known = λ c h. ap (λ (x : ℕ). bit x (c % 64)) (d .stays (8448 + c / 64) (omega arith)) ∙ b .known c h;
         numbered = d .numbered (λ c h. weigh-none (λ p. 2 ^ p) 10 _ (λ p l. ap (λ (x : ℕ). bit x (c % 64))
             (b .kept (8192 + 16 * (c / 64) + p) (inl (omega (arith, startable-out w rows n (length lost) (length m) t .0))) ∙ a .inside (8192 + 16 * (c / 64) + p) (omega arith) (omega arith)) ∙ bit-zero (c % 64)));

@@ -1,7 +1,6 @@
 -- The numbers of the untaken columns stay how many rows have them. Assumes nothing.
 use mathlib.Core.Path.{_≡_, refl, sym, ap, _∙_}
 use mathlib.Core.Bool.{Bool, true, false, cond, _&&_}
-use mathlib.Core.Logic.{_⊎_, inl, inr}
 use mathlib.Core.List.{List}
 use Prim.Native.Nat.{ℕ, _+_, _*_, _/_, _%_, _≤_, _<_}
 use native.Mathlib.Numerals.{add-one}
@@ -11,12 +10,12 @@ use lib.Dec.{leb}
 use lib.ListN.{getD}
 use Rattle.binary.specs.Bits.{_⊕_, tally}
 use Rattle.binary.specs.Words.{bit}
-use Rattle.binary.proofs.Bits.{count-plus, tally-same, tally-change, tally-few}
-use Rattle.binary.proofs.WordBits.{order}
+use Rattle.binary.proofs.Bits.{&&-true, tally-same, tally-few}
 use Rattle.packing.specs.Packed.{cell}
-use Rattle.packing.proofs.Rows.{apart}
+use Rattle.packing.proofs.Rows.{beside}
 use Rattle.columns.specs.Planes.{Carried, number}
 use Rattle.columns.specs.Columns.{untaken, rowsWith, Numbered}
+use Rattle.columns.proofs.Weights.{count-plus, tally-change}
 use Rattle.columns.proofs.Numbers.{number-few}
 use Rattle.numbering.specs.Numbering.{Stays, Added, NumberedRow, NumberedRows}
 use Rattle.numbering.proofs.Counting.{row-ends}
@@ -44,8 +43,8 @@ module _ (w : ℕ) (wide : w ≤ 16) where
         stays = λ k h. t .stays k h ∙ s .stays k h;
         numbered = λ z c h u. let u′ = sym (untaken-same m m′ (t .stays) c) ∙ u in
             let n = s .numbered z c h u′ in
-            let y = t .numbers c h u′ in
-            step c h (y .0) n (y .1);
+            let y = t .numbers c h in
+            step c h (y .0) n (rw (u′, &&-true (cell m w i c) refl) at (y .1));
       }
     where
       cells : (c : ℕ) → c < 64 * w → (j : ℕ) → j < 512 → cell m′ w j c ≡ cell m w j c
@@ -83,22 +82,20 @@ followed false true false old new a a′ l b n s e = omega (arith, n, s, e)
 followed false false true old new a a′ l b n s e = omega (arith, n, s, e)
 followed false false false old new a a′ l b n s e = omega (arith, n, s, e)
 
+-- The cells of the other rows.
+pub added-other : (w from to : ℕ) (m m′ : List ℕ) → w ≤ 16 → Added w from to m m′ → (j c : ℕ) → j < 512 → (j ≡ to → ⊥) → c < 64 * w → cell m′ w j c ≡ cell m w j c
+added-other w from to m m′ wide s j c few n h =
+    cell-same w j c m m′ h (s .kept (j * w + c / 64) (omega (arith, row-ends w j wide few)) (beside w to j c n h))
+
 pub numbered-added : (w top rows from to : ℕ) (m m′ : List ℕ) → w ≤ 16 → rows ≤ 512 → top ≤ to → to < rows
     → Added w from to m m′ → Numbered w top rows m → Numbered w top rows m′
 numbered-added w top rows from to m m′ wide few low within s n c h u =
     let u′ = sym (untaken-same m m′ (s .stays) c) ∙ u in
-    let y = s .numbers c h u′ in
+    let y = s .numbers c h in
     followed (y .0) (cell m w to c) (cell m w from c) (number m c) (number m′ c) (rowsWith m w top rows c) (rowsWith m′ w top rows c)
-    (omega (arith, tally-few rows (λ i. leb top i && cell m w i c))) (number-few m′ c) (n c h u′) changed (y .1)
+    (omega (arith, tally-few rows (λ i. leb top i && cell m w i c))) (number-few m′ c) (n c h u′) changed (rw (u′, &&-true (cell m w from c) refl) at (y .1))
   where
-    other : (i : ℕ) → i < rows → (i ≡ to → ⊥) → cell m′ w i c ≡ cell m w i c
-    other i l e = cell-same w i c m m′ h (s .kept (i * w + c / 64) (omega (arith, row-ends w i wide (omega arith))) (side (order i to)))
-      where
-        side : (i < to) ⊎ (to ≤ i) → (i * w + c / 64 < to * w) ⊎ (to * w + w ≤ i * w + c / 64)
-        side (inl p) = inl (omega (arith, apart w i to p))
-        side (inr p) = inr (omega (arith, apart w to i (omega arith)))
-
     changed : rowsWith m′ w top rows c + cond (cell m w to c) 1 0 ≡ rowsWith m w top rows c + cond (cell m w to c ⊕ cell m w from c) 1 0
     changed =
         rw (← s .cells c h) (rw (le-leb top to low) at (tally-change rows to (λ i. leb top i && cell m w i c) (λ i. leb top i && cell m′ w i c) within
-        (λ i l e. ap (λ (b : Bool). leb top i && b) (other i l e))))
+        (λ i e l. ap (λ (b : Bool). leb top i && b) (added-other w from to m m′ wide s i c (omega arith) e h))))

@@ -50,14 +50,15 @@ inside? len w i = leb w 16 && ltb i 512 && leb 10240 len
 abbrev pub RowsIn : ℕ → ℕ → ℕ → List ℕ → Type 0
 RowsIn w from to m = (w ≤ 16) × (from * w + w ≤ 8192) × (to * w + w ≤ 8192) × (10240 ≤ length m)
 
--- Numbers modulo 1024: x says whether one went past.
+-- The number of an untaken column that row `from` has grows by one, or shrinks where row `to` had it too; modulo 1024: x says whether it went past. The others stay.
 pub record Added (w from to : ℕ) (m m′ : List ℕ) : Type 0 where
   pub long : length m′ ≡ length m
   pub cells : (c : ℕ) → c < 64 * w → cell m′ w to c ≡ cell m w to c ⊕ cell m w from c
   pub kept : (k : ℕ) → k < 8192 → (k < to * w) ⊎ (to * w + w ≤ k) → getD m′ k 0 ≡ getD m k 0
   pub stays : Stays m m′
-  pub numbers : (c : ℕ) → c < 64 * w → untaken m c ≡ true
-      → (x : Bool) × Carried (cell m w to c) (cond (cell m w from c) 1 0) (cond x 1024 0) (number m c) (number m′ c)
+  pub beyond : (k : ℕ) → 8192 + 16 * w ≤ k → k < 8448 → getD m′ k 0 ≡ getD m k 0
+  pub numbers : (c : ℕ) → c < 64 * w
+      → (x : Bool) × Carried (cell m w to c) (cond (cell m w from c && untaken m c) 1 0) (cond x 1024 0) (number m c) (number m′ c)
 
 pub record Adds (w from to : ℕ) (m m′ : List ℕ) : Type 0 where
   pub added : inside? (length m) w from ≡ true → inside? (length m) w to ≡ true → Added w from to m m′
@@ -80,8 +81,7 @@ pub record NumberedRow (w i : ℕ) (m m′ : List ℕ) : Type 0 where
   pub long : length m′ ≡ length m
   pub kept : (k : ℕ) → k < 8192 → getD m′ k 0 ≡ getD m k 0
   pub stays : Stays m m′
-  pub numbers : (c : ℕ) → c < 64 * w → untaken m c ≡ true
-      → (x : Bool) × Carried false (cond (cell m w i c) 1 0) (cond x 1024 0) (number m c) (number m′ c)
+  pub numbers : (c : ℕ) → c < 64 * w → (x : Bool) × Carried false (cond (cell m w i c && untaken m c) 1 0) (cond x 1024 0) (number m c) (number m′ c)
 
 -- From planes that are clear.
 pub record NumberedRows (w rows : ℕ) (m m′ : List ℕ) : Type 0 where
@@ -96,6 +96,7 @@ startable? w rows n lost work = leb w 16 && leb rows 512 && leb 10240 work && le
 pub record Started (w rows n : ℕ) (lost m m′ : List ℕ) : Type 0 where
   pub long : length m′ ≡ length m
   pub kept : (k : ℕ) → k < 8192 → getD m′ k 0 ≡ getD m k 0
+  pub past : (k : ℕ) → 8464 ≤ k → getD m′ k 0 ≡ getD m k 0
   pub known : (c : ℕ) → c < 64 * w → untaken m′ c ≡ (ltb c n && not (listed n lost c))
   pub numbered : Numbered w 0 rows m′
 

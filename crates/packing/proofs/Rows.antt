@@ -7,14 +7,13 @@ use Prim.Native.Nat.{ℕ, suc, _+_, _*_, _/_, _%_, _^_, _≤_, _<_}
 use native.Mathlib.Nat.{suc-mul, mul-le-mul, mul-le-mul-right}
 use native.Mathlib.Decide.{ℕ-discrete}
 use native.Mathlib.Omega.{arith}
-use borrow.Author.Tests.{eq-eqb, ne-eqb, eqb-true}
+use borrow.Author.Tests.{ne-eqb}
 use lib.Dec.{eqb}
 use lib.Bits.{bitOr}
 use lib.ListN.{length, getD, set}
 use lib.Seq.{getD-set-same, getD-set-other}
 use Rattle.binary.specs.Words.{bit}
-use Rattle.binary.proofs.Bits.{iff-eq}
-use Rattle.binary.proofs.WordBits.{order, bit-or, bit-pow, one-shl}
+use Rattle.binary.proofs.WordBits.{order, bit-set, same-digit}
 use Rattle.packing.specs.Packed.{cell}
 use Rattle.packing.specs.Packing.{BitsSet}
 
@@ -27,29 +26,19 @@ few-words i w a b = mul-le-mul {n₁ = i} {m₁ = w} {n₂ = 512} {m₂ = 16} a 
 pub apart : (w i j : ℕ) → i < j → i * w + w ≤ j * w
 apart w i j h = omega (arith, suc-mul i w, mul-le-mul-right {m = suc i} {n = j} w h)
 
+-- A word of another row lies before row i, or behind it.
+pub beside : (w i j c : ℕ) → (j ≡ i → ⊥) → c < 64 * w → (j * w + c / 64 < i * w) ⊎ (i * w + w ≤ j * w + c / 64)
+beside w i j c n h =
+    ⊎-elim (λ (p : j < i). inl (omega (arith, apart w j i p))) (λ (p : i ≤ j). inr (omega (arith, apart w i j (omega arith)))) (order j i)
+
 -- Words that changed in row i alone.
 pub other-cells : (w i : ℕ) (m m′ : List ℕ) → ((k : ℕ) → (k < i * w) ⊎ (i * w + w ≤ k) → getD m′ k 0 ≡ getD m k 0)
     → (j c : ℕ) → (j ≡ i → ⊥) → c < 64 * w → cell m′ w j c ≡ cell m w j c
 unfolding cell
-other-cells w i m m′ kept j c n h = ap (λ (x : ℕ). bit x (c % 64)) (kept (j * w + c / 64) (side (order j i)))
-  where
-    side : (j < i) ⊎ (i ≤ j) → (j * w + c / 64 < i * w) ⊎ (i * w + w ≤ j * w + c / 64)
-    side (inl p) = inl (omega (arith, apart w j i p))
-    side (inr p) = inr (omega (arith, apart w i j (omega arith)))
+other-cells w i m m′ kept j c n h = ap (λ (x : ℕ). bit x (c % 64)) (kept (j * w + c / 64) (beside w i j c n h))
 
 ----------------------------------------------------------------------
 -- A bit set in a row
-
--- The code's `x | (1 << g)`.
-bit-set : (x g k : ℕ) → g < 64 → bit (bitOr x (1 * 2 ^ g % 2 ^ 64)) k ≡ (bit x k || eqb g k)
-bit-set x g k h =
-    rw (one-shl g h) (bit-or x (2 ^ g) k ∙ ap (λ (b : Bool). bit x k || b) (bit-pow g k))
-
-same-digit : (q c : ℕ) → c / 64 ≡ q / 64 → eqb (q % 64) (c % 64) ≡ eqb q c
-same-digit q c e =
-    iff-eq (eqb (q % 64) (c % 64)) (eqb q c)
-    (λ t. let d : q % 64 ≡ c % 64 = eqb-true (q % 64) (c % 64) t in eq-eqb q c (omega arith))
-    (λ t. let d : q ≡ c = eqb-true q c t in eq-eqb (q % 64) (c % 64) (omega arith))
 
 or-none : (b : Bool) → b ≡ (b || false)
 or-none true = refl

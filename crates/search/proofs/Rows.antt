@@ -14,15 +14,16 @@ use Rattle.lists.specs.Copied.{apart?, Copied}
 use Rattle.binary.specs.Bits.{_⊕_, tally}
 use Rattle.binary.specs.Words.{bit}
 use Rattle.packing.specs.Packed.{cell}
-use Rattle.packing.proofs.Rows.{apart}
+use Rattle.packing.proofs.Rows.{apart, other-cells}
 use Rattle.columns.specs.Columns.{untaken, rowsWith, Numbered}
 use Rattle.numbering.specs.Numbering.{Added, Adds}
 use Rattle.search.specs.Route.{former}
 use Rattle.search.specs.Search.{First, Later, Clears}
-use Rattle.binary.proofs.Bits.{⊕-false, ⊕-self, &&-false, never, and-in, or-left, not-out, tally-same, tally-change, tally-up, none-counted, below-out}
+use Rattle.binary.proofs.Bits.{⊕-false, ⊕-self, &&-false, never, and-in, or-left, not-out, tally-same, tally-up, none-counted, below-out}
 use Rattle.binary.proofs.WordBits.{order}
+use Rattle.columns.proofs.Weights.{tally-change}
 use Rattle.numbering.proofs.Counting.{row-ends, number-same, inside-in}
-use Rattle.numbering.proofs.Numbered.{numbered-added, cell-same, untaken-same}
+use Rattle.numbering.proofs.Numbered.{added-other, numbered-added, untaken-same}
 
 ----------------------------------------------------------------------
 -- Rows without the column
@@ -55,15 +56,6 @@ none-left w j rows q m e l a b =
 
 ----------------------------------------------------------------------
 -- A row added
-
--- The cells of the other rows.
-pub added-other : (w from to : ℕ) (m m′ : List ℕ) → w ≤ 16 → Added w from to m m′ → (j c : ℕ) → j < 512 → (j ≡ to → ⊥) → c < 64 * w → cell m′ w j c ≡ cell m w j c
-added-other w from to m m′ wide s j c few n h =
-    cell-same w j c m m′ h (s .kept (j * w + c / 64) (omega (arith, row-ends w j wide few)) (side (order j to)))
-  where
-    side : (j < to) ⊎ (to ≤ j) → (j * w + c / 64 < to * w) ⊎ (to * w + w ≤ j * w + c / 64)
-    side (inl p) = inl (omega (arith, apart w j to p))
-    side (inr p) = inr (omega (arith, apart w to j (omega arith)))
 
 -- The rows past the one that is added to.
 pub rest-same : (w rows q from to : ℕ) (m m′ : List ℕ) → w ≤ 16 → rows ≤ 512 → q < 64 * w → Added w from to m m′
@@ -216,11 +208,7 @@ module _ (w top rows q i : ℕ) (m m₁ m₂ : List ℕ) (wide : w ≤ 16) (few 
     moved c h = ap (λ (x : ℕ). bit x (c % 64)) (r .copied apart-rows (c / 64) (omega arith))
 
     other : (j c : ℕ) → (j ≡ i → ⊥) → c < 64 * w → cell m₃ w j c ≡ cell m₂ w j c
-    other j c d h = cell-same w j c m₂ m₃ h (r .stays apart-rows (j * w + c / 64) (side (order j i)))
-      where
-        side : (j < i) ⊎ (i ≤ j) → (j * w + c / 64 < i * w) ⊎ (i * w + w ≤ j * w + c / 64)
-        side (inl p) = inl (omega (arith, apart w j i p))
-        side (inr p) = inr (omega (arith, apart w i j (omega arith)))
+    other = other-cells w i m₂ m₃ (r .stays apart-rows)
 
     past : (k : ℕ) → 8192 ≤ k → getD m₃ k 0 ≡ getD m₂ k 0
     past k h = r .stays apart-rows k (inr (omega (arith, row-ends w i wide (omega arith))))
@@ -228,8 +216,8 @@ module _ (w top rows q i : ℕ) (m m₁ m₂ : List ℕ) (wide : w ≤ 16) (few 
     -- As many rows have a column: row top stands at place i.
     as-many : (c : ℕ) → c < 64 * w → rowsWith m₃ w (top + 1) rows c ≡ rowsWith m₂ w top rows c
     as-many c h =
-        let a = tally-change rows i (at top m₂) (at top m₃) within (λ j l d. ap (λ (b : Bool). leb top j && b) (other j c d h)) in
-        let b = tally-change rows top (at top m₃) (at (top + 1) m₃) (omega arith) (λ j l d. ap (_&& cell m₃ w j c) (later j d)) in
+        let a = tally-change rows i (at top m₂) (at top m₃) within (λ j d l. ap (λ (b : Bool). leb top j && b) (other j c d h)) in
+        let b = tally-change rows top (at top m₃) (at (top + 1) m₃) (omega arith) (λ j d l. ap (_&& cell m₃ w j c) (later j d)) in
         both (tally rows (at top m₂)) (tally rows (at top m₃)) (tally rows (at (top + 1) m₃)) (cell m₂ w top c)
         (rw (le-leb top i (f .start), emptied c h, moved c h) at a)
         (rw (le-leb top top (le-refl top), lt-leb (top + 1) top (omega arith), other top c (λ d. n (sym d)) h) at b)

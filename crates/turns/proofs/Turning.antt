@@ -11,7 +11,7 @@ use lib.ListN.{length, getD, set}
 use lib.ListN.{length-set}
 use Rattle.binary.specs.Meaning.{Qubits, Row, Check, has}
 use Rattle.binary.specs.Words.{bit}
-use Rattle.binary.proofs.Bits.{bit as cases, never, eqb-eq, eq-eqb, eqb-differ, or-out, iff-eq}
+use Rattle.binary.proofs.Bits.{bit as cases, never, eqb-eq, eqb-sym, eqb-differ, or-out}
 use Rattle.binary.proofs.WordBits.{bit-pow, one-shl}
 use Rattle.code.specs.Lists.{rowAt}
 use Rattle.forms.specs.declared.Taken.{Taken}
@@ -147,10 +147,6 @@ module _ (n : ℕ) (c : RowLists) (old : Working) (forms′ work′ : List ℕ) 
 -- A side has no bit above the live guesses.
 pub side-topped : (n live : ℕ) (forms : List ℕ) (c : Check) (word : ℕ) → Topped n live forms → IsSide n forms c word → ToppedWord live word
 side-topped n live forms c word top s k l = s .bits k ∙ side-top (withLive n forms 0) c k (λ q. top q k l) (omega arith)
-
-eqb-sym : (a b : ℕ) → eqb a b ≡ eqb b a
-eqb-sym a b =
-    iff-eq (eqb a b) (eqb b a) (λ e. subst (λ (x : ℕ). eqb x a ≡ true) (eqb-eq a b e) (eq-eqb a)) (λ e. subst (λ (x : ℕ). eqb x b ≡ true) (eqb-eq b a e) (eq-eqb b))
 
 -- The word of a new guess has its bit alone.
 pub guess-bit : (g live : ℕ) → g ≡ live + 1 → live < 63 → (k : ℕ) → bit (1 * 2 ^ g % 2 ^ 64) k ≡ eqb k (suc live)

@@ -4,7 +4,7 @@ use native.Mathlib.Omega.{arith}
 use lib.Dec.{leb}
 use Rattle.binary.proofs.Bits.{tally-few}
 use Rattle.packing.specs.Packed.{cell}
-use Rattle.search.proofs.Passes.{not-lost, lost-blank, lost-marked}
+use Rattle.search.proofs.Losts.{not-lost, lost-blank, lost-marked}
 use borrow.Author.Needs.{needs}
 use Rattle.search.proofs.take_if_lost.Statement.{statement}
 use Rattle.search.proofs.take_if_lost.Tie as tie

@@ -7,7 +7,7 @@ use borrow.Author.Needs.{needs}
 use lib.ListN.{length}
 use Rattle.search.specs.Route.{steps}
 use Rattle.search.specs.Search.{standOf, Sound}
-use Rattle.search.proofs.Passes.{none-taken, fewer, column-in, as-counted, blank, known-more, knowns-end, knowns-idle}
+use Rattle.search.proofs.Knowns.{none-taken, fewer, column-in, as-counted, blank, known-more, knowns-end, knowns-idle}
 use Rattle.search.proofs.take_known.Statement.{statement}
 use Rattle.search.proofs.take_known.Tie as tie
 

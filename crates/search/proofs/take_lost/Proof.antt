@@ -5,7 +5,7 @@ use native.Mathlib.Omega.{arith}
 use borrow.Author.Needs.{needs}
 use lib.ListN.{length}
 use Rattle.search.specs.Search.{Losts}
-use Rattle.search.proofs.Passes.{losts-none, losts-more}
+use Rattle.search.proofs.Losts.{losts-none, losts-more}
 use Rattle.search.proofs.take_lost.Statement.{statement}
 use Rattle.search.proofs.take_lost.Tie as tie
 

@@ -1,35 +1,30 @@
--- The columns that are not lost, then the lost ones: the stand of the search follows the route. Assumes nothing.
-use mathlib.Core.Path.{_≡_, refl, sym, ap, ap₂, _∙_, fun-ext}
-use mathlib.Core.Bool.{Bool, true, false, not, cond, _&&_}
+-- The columns that are not lost, the shortest first: the stand of the search follows the route. Assumes nothing.
+use mathlib.Core.Path.{_≡_, refl, sym, ap, _∙_, fun-ext}
+use mathlib.Core.Bool.{Bool, true, not, _&&_}
 use mathlib.Core.Logic.{_⊎_, inl, inr, ⊎-elim}
 use mathlib.Core.List.{List}
 use mathlib.Core.Option.{Option}
 use Prim.Native.Nat.{ℕ, zero, suc, _+_, _-_, _*_, _/_, _≤_, _<_}
-use native.Mathlib.Nat.{le-refl}
 use native.Mathlib.Numerals.{add-one}
 use native.Mathlib.Omega.{arith}
-use borrow.Author.Tests.{le-leb, lt-ltb, le-ltb, eq-eqb, ne-eqb}
+use borrow.Author.Tests.{le-leb, lt-ltb, le-ltb}
 use lib.Dec.{eqb, leb, ltb}
-use lib.ListN.{length-set, getD, set}
 use lib.ListN as lists
-use lib.Seq.{getD-set-same, getD-set-other}
-use Rattle.binary.specs.Meaning.{Qubits}
-use Rattle.binary.specs.Words.{listed}
 use Rattle.packing.specs.Packed.{cell}
 use Rattle.columns.specs.Planes.{number}
 use Rattle.columns.specs.Columns.{untaken, rowsWith, Numbered}
 use Rattle.choosing.specs.declared.Shortest.{Shortest}
 use Rattle.choosing.specs.Choosing.{ShortestOf, room?}
 use Rattle.choosing.specs.Choosing as choosing
-use Rattle.search.specs.Route.{Stand, length, some?, without, take, shortest, stepBy, step, steps, ascend, first}
-use Rattle.search.specs.Search.{Takes, rowOf, standOf, Same, Sound, Knowns, LostTaken, Losts}
+use Rattle.search.specs.Route.{Stand, length, without, take, shortest, stepBy, step, steps, first}
+use Rattle.search.specs.Search.{Takes, rowOf, standOf, Sound, Knowns}
 use Rattle.binary.proofs.Bits.{bit, &&-true, and-in, and-out, tally-same}
 use Rattle.binary.proofs.WordBits.{order}
 use Rattle.numbering.proofs.Counting.{row-ends}
 use Rattle.numbering.proofs.Numbered.{cell-same}
 use Rattle.search.proofs.Rows.{none-left}
 use Rattle.search.proofs.Choices.{shortest-none, shortest-some}
-use Rattle.search.proofs.Stands.{numbered-less, untaken-word, columns-same, row-same, stand-eq, same-trans, take-same, take-untaken, takes-stand, clearing-by}
+use Rattle.search.proofs.Stands.{numbered-less, untaken-word, columns-same, row-same, stand-eq, same-trans, take-same, take-untaken, takes-stand}
 
 ----------------------------------------------------------------------
 -- The shortest column is taken
@@ -98,7 +93,7 @@ module _ (n w rows top : ℕ) (m₀ m : List ℕ) (found : Shortest) (wide : n �
       untaken-then : (p : ℕ) → p < 64 * w → untaken m′ p ≡ (untaken m₀ p && not (eqb (found .column) p))
       untaken-then p h = ⊎-elim
           (λ y. ap (λ (l : List ℕ). untaken l p) (y .1))
-          (λ y. untaken-word m m′ p (y .1 .stays (8448 + p / 64) (omega arith) (λ e. omega arith))) x ∙ t .taken roomy some-left p h
+          (λ y. untaken-word m m′ p (y .1 .stays (8448 + p / 64) (omega arith) (λ e. omega arith))) x ∙ t .taken roomy some-left p
 
       taken-stands : standOf n w rows r m′ ≡ step n rows (standOf n w rows top m₀)
       taken-stands =
@@ -120,7 +115,7 @@ module _ (n w rows top : ℕ) (m₀ m : List ℕ) (found : Shortest) (wide : n �
           numbered : Numbered w top rows m
           numbered =
               numbered-less w top rows m₀ m few enough (λ k h. t .kept k (inl h))
-              (λ c h u. and-out (untaken m₀ c) (not (eqb (found .column) c)) (sym (t .taken roomy some-left c h) ∙ u) .0) (sound .1)
+              (λ c h u. and-out (untaken m₀ c) (not (eqb (found .column) c)) (sym (t .taken roomy some-left c) ∙ u) .0) (sound .1)
 
       taken-within : r ≤ rows
       taken-within = ⊎-elim (λ y. omega (arith, y .0)) (λ y. omega (arith, y .0, y .1 .column .start, y .1 .column .within)) x
@@ -156,91 +151,3 @@ module _ (n w rows k top : ℕ) (m₀ m : List ℕ) (within : top ≤ rows) (lon
         within = within;
         stands = rw d (sym (rw z at (steps-idle n rows k (n - k) (standOf n w rows 0 m₀) (standOf n w rows top m) (sym e) i)));
       }
-
-----------------------------------------------------------------------
--- A lost column
-
-module _ (n w rows : ℕ) (lost : List ℕ) (q top : ℕ) (m marks : List ℕ) (wide : n ≤ 64 * w) (small : q < n) (within : top ≤ rows) where
-  listed-at : listed n lost q ≡ eqb (getD lost q 0) 1
-  unfolding listed
-  listed-at = rw (lt-ltb q n small)
-
-  pub not-lost : (getD lost q 0 ≡ 1 → ⊥) → LostTaken n w rows lost q top m marks top m marks
-  not-lost t =
-      let e = listed-at ∙ ne-eqb (getD lost q 0) 1 t in
-      record {
-        long = refl;
-        size = refl;
-        low = le-refl top;
-        within = within;
-        order = λ k h. refl;
-        stands = rw e (refl, refl);
-        marked = rw e;
-        kept = λ p d. refl;
-      }
-
-  module _ (l : getD lost q 0 ≡ 1) (m′ : List ℕ) (r : ℕ) (x : Takes w top rows q m m′ r) where
-    is-lost : listed n lost q ≡ true
-    is-lost = listed-at ∙ eq-eqb (getD lost q 0) 1 l
-
-    lost-taken : (marks′ : List ℕ) → lists.length marks′ ≡ lists.length marks → getD marks′ q 0 ≡ cond (not (eqb r top)) 1 (getD marks q 0)
-        → ((p : ℕ) → (p ≡ q → ⊥) → getD marks′ p 0 ≡ getD marks p 0) → LostTaken n w rows lost q top m marks r m′ marks′
-    lost-taken marks′ size here other =
-        record {
-          long = ⊎-elim (λ y. ap lists.length (y .1)) (λ y. y .1 .long) x;
-          size = size;
-          low = ⊎-elim (λ y. omega (arith, y .0)) (λ y. omega (arith, y .0)) x;
-          within = ⊎-elim (λ y. omega (arith, y .0)) (λ y. omega (arith, y .0, y .1 .column .start, y .1 .column .within)) x;
-          order = λ k h. ⊎-elim (λ y. ap (λ (z : List ℕ). getD z (9216 + k) 0) (y .1)) (λ y. y .1 .stays (9216 + k) (omega arith) (λ e. omega arith)) x;
-          stands = rw is-lost (takes-stand n w rows top q m m′ r wide small x);
-          marked = rw (is-lost, clearing-by n w rows top q m m′ r wide small x) here;
-          kept = other;
-        }
-
-    pub lost-blank : r ≡ top → LostTaken n w rows lost q top m marks top m′ marks
-    lost-blank e = rw e at (lost-taken marks refl (rw (eq-eqb r top e)) (λ p d. refl))
-
-    pub lost-marked : (r ≡ top → ⊥) → n ≤ lists.length marks → LostTaken n w rows lost q top m marks r m′ (set marks q 1)
-    lost-marked d room =
-        lost-taken (set marks q 1) (length-set marks q 1) (getD-set-same marks q 1 0 (omega arith) ∙ rw (ne-eqb r top d))
-        (λ p e. getD-set-other marks q p 1 0 e)
-
-----------------------------------------------------------------------
--- The lost columns, ascending
-
-module _ (n w rows : ℕ) (lost : List ℕ) (top : ℕ) (m marks : List ℕ) where
-  pub losts-none : top ≤ rows → Losts n w rows lost top m marks 0 top m marks
-  losts-none h =
-      record {
-        long = refl;
-        size = refl;
-        low = le-refl top;
-        within = h;
-        order = λ k l. refl;
-        stands = (refl, refl);
-        marked = λ p l. absurd (omega arith);
-        kept = λ p l. refl;
-      }
-
-  pub losts-more : (q r₁ : ℕ) (m₁ marks₁ : List ℕ) (r₂ : ℕ) (m₂ marks₂ : List ℕ) → Losts n w rows lost top m marks q r₁ m₁ marks₁
-      → LostTaken n w rows lost q r₁ m₁ marks₁ r₂ m₂ marks₂ → Losts n w rows lost top m marks (q + 1) r₂ m₂ marks₂
-  losts-more q r₁ m₁ marks₁ r₂ m₂ marks₂ s x =
-      record {
-        long = x .long ∙ s .long;
-        size = x .size ∙ s .size;
-        low = omega (arith, x .low, s .low);
-        within = x .within;
-        order = λ k h. x .order k (omega (arith, s .low)) ∙ s .order k h;
-        stands = rw add-one (same-trans (standOf n w rows r₂ m₂) (cond (listed n lost q) (take rows q (standOf n w rows r₁ m₁)) (standOf n w rows r₁ m₁)) (ascend rows (listed n lost) (suc q) (standOf n w rows top m)) (x .stands) (onward (listed n lost q)));
-        marked = λ p h. ⊎-elim
-            (λ (g : p < q). x .kept p (λ e. omega arith) ∙ s .marked p g)
-            (λ (g : q ≤ p). let e : p ≡ q = omega arith in
-            rw e (x .marked ∙ ap₂ (λ (b : Option ℕ) (k : ℕ). cond (listed n lost q && some? b) 1 k) (ap (λ (y : ℕ → Qubits). first rows (λ i. y i q)) (s .stands .1)) (s .kept q (le-refl q))))
-            (order p q);
-        kept = λ p h. x .kept p (λ e. omega arith) ∙ s .kept p (omega arith);
-      }
-    where
-      onward : (b : Bool) → Same (cond b (take rows q (standOf n w rows r₁ m₁)) (standOf n w rows r₁ m₁))
-          (cond b (take rows q (ascend rows (listed n lost) q (standOf n w rows top m))) (ascend rows (listed n lost) q (standOf n w rows top m)))
-      onward true = take-same rows q (standOf n w rows r₁ m₁) (ascend rows (listed n lost) q (standOf n w rows top m)) (s .stands)
-      onward false = s .stands
