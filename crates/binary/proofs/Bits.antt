@@ -195,6 +195,16 @@ tally-up (suc n) p f f′ l a b h =
     slide true k = refl
     slide false k = refl
 
+-- The first counted first.
+pub tally-first : (n : ℕ) (f : ℕ → Bool) → tally (suc n) f ≡ count (f 0) (tally n (λ q. f (suc q)))
+tally-first zero f = refl
+tally-first (suc n) f = ap (count (f (suc n))) (tally-first n f) ∙ swap (f (suc n)) (f 0)
+  where
+    swap : (x y : Bool) → count x (count y (tally n (λ q. f (suc q)))) ≡ count y (count x (tally n (λ q. f (suc q))))
+    swap true true = refl
+    swap true false = refl
+    swap false y = refl
+
 pub tally-few : (n : ℕ) (f : ℕ → Bool) → tally n f ≤ n
 tally-few zero f = omega arith
 tally-few (suc n) f = let rest = tally-few n f in bit (f n) (λ e. rw e (omega arith)) (λ e. rw e (omega arith))

@@ -1,3 +1,5 @@
-pub mod Degrees
+pub mod Adding
+pub mod Weighing
+pub mod Renewing
 pub mod Choices
 pub mod Room

@@ -1,71 +1,103 @@
--- The guess rule in the lists.
---   times        how often a qubit stands in a row; timesIn: in rows
---   AddedRow     one more for each time a qubit stands in the row
---   readRows     the qubits of each row, none of an unread one
---   CountedRows  on how many rows that were read each qubit is, in the work list from element 9216 on
---   degreeOf     the number that the list has of a qubit
---   Counts       the promise of `count_rows`
---   choiceOf     the qubit that the rule names, as an answer
---   betterOf     the better of the qubit named so far and of a higher open one
---   NamedBelow   the qubit named, if any, is below n
---   mostOpen     the promise of `most_open`: the qubit that the rule names by the list's numbers
+-- The guess rule by numbers that are kept: one for each open qubit, its weight, in the work list from element 9216 on.
+--   weightOf    the number that the list has of a qubit
+--   weight      1024 for each row on the qubit that has exactly two open qubits, and 1 for each row on it
+--   Weighed     the kept numbers of the open qubits are a fresh count over the marks
+--   shareOf     what a row adds at each of its qubits, by the number of its open qubits
+--   changeOf    what a row adds when one of its qubits is settled: it comes to two open qubits, or leaves them
+--   AddedRow    a weight added at each qubit of a row
+--   Weighs      the promise of `weigh`: the weights counted
+--   Renews      the promise of `renew`: the weights after a qubit is settled
+--   choiceOf    the qubit that the rule names, as an answer
+--   betterOf    the better of the qubit named so far and of a higher open one
+--   NamedBelow  the qubit named, if any, is below n
+--   heaviest    the promise of `most_open`: the open qubit of the largest weight, the lowest of equals
 use mathlib.Core.Path.{_≡_}
 use mathlib.Core.Bool.{Bool, true, false, _&&_, cond}
 use mathlib.Core.Option.{Option, none, some}
-use mathlib.Core.List.{List, [], _∷_}
-use Prim.Native.Nat.{ℕ, zero, suc, _+_, _<_}
+use mathlib.Core.List.{List}
+use Prim.Native.Nat.{ℕ, _+_, _*_, _%_, _≤_, _<_}
 use lib.Dec.{eqb, ltb, leb}
 use lib.ListN.{length, getD}
-use Rattle.binary.specs.Bits.{count}
-use Rattle.binary.specs.Meaning.{All}
+use Rattle.binary.specs.Meaning.{Qubits, Check, has}
 use Rattle.code.specs.declared.Qubit.{Qubit}
-use Rattle.code.specs.Lists.{rowsFrom}
 use Rattle.code.specs.Tests.{Ascending}
-use Rattle.scans.specs.Rows.{readRow, checksFrom}
+use Rattle.scans.specs.Rows.{RowLists, rowChecks, GoodRows}
+use Rattle.kept.specs.Kept.{Kept, RowsOn}
 use Rattle.guessing.specs.declared.Choice.{Choice}
 use Rattle.guessing.specs.declared.Choice.the-variants.{NoQubit, Named}
-use Rattle.machine.specs.Machine.{isOpen, degree, most}
+use Rattle.machine.specs.Machine.{put, isOpen, pairs, degree, best}
 use Rattle.machine.specs.Lists.{view}
 
 ----------------------------------------------------------------------
--- Degrees
+-- Weights
 
-abbrev pub times : List ℕ → ℕ → ℕ
-times [] q = 0
-times (p ∷ row) q = count (eqb p q) (times row q)
+abbrev pub weightOf : List ℕ → ℕ → ℕ
+weightOf work q = getD work (9216 + q) 0
 
-abbrev pub timesIn : List (List ℕ) → ℕ → ℕ
-timesIn [] q = 0
-timesIn (row ∷ rows) q = times row q + timesIn rows q
+-- No qubit is on 1024 rows: of two weights the larger has more rows with two open qubits, or as many and more rows.
+abbrev pub weight : Qubits → List Check → ℕ → ℕ
+weight o cs q = 1024 * pairs o cs q + degree cs q
 
-abbrev pub degreeOf : List ℕ → ℕ → ℕ
-degreeOf work q = getD work (9216 + q) 0
+pub record Weighed (o : Qubits) (c : RowLists) (work : List ℕ) : Type 0 where
+  pub weights : (q : ℕ) → o q ≡ true → weightOf work q ≡ weight o (rowChecks c) q
 
-pub record AddedRow (n : ℕ) (row work work′ : List ℕ) : Type 0 where
+abbrev pub shareOf : ℕ → ℕ
+shareOf number = cond (eqb number 0) 0 (cond (eqb number 2) 1025 1)
+
+-- Of the number that is left. Sums are taken modulo 2^32: the second is 1024 taken back.
+abbrev pub changeOf : ℕ → ℕ
+changeOf left = cond (eqb left 2) 1024 (cond (eqb left 1) 4294966272 0)
+
+abbrev pub addedAt : ℕ → Bool → ℕ → ℕ
+addedAt share on x = cond on ((x + share) % 4294967296) x
+
+-- Of a row without repeats.
+pub record AddedRow (n share : ℕ) (row work work′ : List ℕ) : Type 0 where
   pub long : length work′ ≡ length work
   pub below : (k : ℕ) → k < 9216 → getD work′ k 0 ≡ getD work k 0
-  pub added : (q : ℕ) → q < n → degreeOf work′ q ≡ degreeOf work q + times row q
+  pub past : (k : ℕ) → 9216 + n ≤ k → getD work′ k 0 ≡ getD work k 0
+  pub added : Ascending n row → (q : ℕ) → q < n → weightOf work q < 4294967296 → weightOf work′ q ≡ addedAt share (has row q) (weightOf work q)
 
-abbrev pub readRows : List ℕ → List ℕ → List ℕ → ℕ → ℕ → List (List ℕ)
-readRows flat ends lit r zero = []
-readRows flat ends lit r (suc count) = readRow flat ends lit r ∷ readRows flat ends lit (suc r) count
+----------------------------------------------------------------------
+-- Counted, and kept
 
--- Of rows without repeats.
-pub record CountedRows (n : ℕ) (flat ends lit : List ℕ) (first count : ℕ) (work work′ : List ℕ) : Type 0 where
+-- The half's rows, with any readings.
+abbrev pub rowsIn : List ℕ → List ℕ → ℕ → ℕ → List ℕ → RowLists
+rowsIn flat ends first count lit = record { flat = flat; ends = ends; lit = lit; first = first; count = count }
+
+-- From what is kept of the rows.
+pub record WeighedRows (n : ℕ) (flat ends : List ℕ) (first count : ℕ) (work work′ : List ℕ) : Type 0 where
   pub long : length work′ ≡ length work
   pub below : (k : ℕ) → k < 9216 → getD work′ k 0 ≡ getD work k 0
-  pub counted : All (Ascending n) (rowsFrom flat ends first count)
-      → (q : ℕ) → q < n → degreeOf work′ q ≡ degree (checksFrom flat ends lit first count) q
+  pub past : (k : ℕ) → 9216 + n ≤ k → getD work′ k 0 ≡ getD work k 0
+  pub weighed : (lit : List ℕ) → let c = rowsIn flat ends first count lit in GoodRows n c
+      → (o : Qubits) → ((q : ℕ) → o q ≡ true → q < n) → Kept o c work → Weighed o c work′
 
-unfoldable pub countable? : ℕ → ℕ → ℕ → ℕ → ℕ → Bool
-countable? n first count lit work = leb n 1024 && leb (first + count) 1024 && leb (first + count) lit && leb 10240 work
+-- Qubit p was settled, and what is kept of the rows is without it.
+pub record RenewedRows (n : ℕ) (flat ends : List ℕ) (first count p : ℕ) (work work′ : List ℕ) : Type 0 where
+  pub long : length work′ ≡ length work
+  pub below : (k : ℕ) → k < 9216 → getD work′ k 0 ≡ getD work k 0
+  pub past : (k : ℕ) → 9216 + n ≤ k → getD work′ k 0 ≡ getD work k 0
+  pub renewed : (lit : List ℕ) → let c = rowsIn flat ends first count lit in GoodRows n c
+      → (o : Qubits) → ((q : ℕ) → o q ≡ true → q < n) → o p ≡ true → Kept (put p false o) c work → RowsOn o c work → Weighed o c work → Weighed (put p false o) c work′
 
-pub record Counts (n : ℕ) (flat ends lit : List ℕ) (first count : ℕ) (work work′ : List ℕ) : Type 0 where
-  pub refused : countable? n first count (length lit) (length work) ≡ false → work′ ≡ work
-  pub counts : countable? n first count (length lit) (length work) ≡ true → CountedRows n flat ends lit first count work work′
+unfoldable pub weighable? : ℕ → ℕ → ℕ → ℕ → Bool
+weighable? n first count work = leb n 1024 && leb count 512 && leb (first + count) 1024 && leb 10240 work
+
+-- Where sizes and the list fit; otherwise nothing is written.
+pub record Weighs (n : ℕ) (flat ends : List ℕ) (first count : ℕ) (work work′ : List ℕ) : Type 0 where
+  pub refused : weighable? n first count (length work) ≡ false → work′ ≡ work
+  pub weighs : weighable? n first count (length work) ≡ true → WeighedRows n flat ends first count work work′
+
+pub record Renews (n : ℕ) (flat ends : List ℕ) (first count p : ℕ) (work work′ : List ℕ) : Type 0 where
+  pub refused : weighable? n first count (length work) ≡ false → work′ ≡ work
+  pub renews : weighable? n first count (length work) ≡ true → RenewedRows n flat ends first count p work work′
 
 ----------------------------------------------------------------------
 -- The guessed qubit
+
+abbrev pub lighter : List ℕ → ℕ → ℕ → Bool
+lighter work p q = ltb (weightOf work p) (weightOf work q)
 
 abbrev pub choiceOf : Option ℕ → Choice
 choiceOf none = NoQubit
@@ -73,7 +105,7 @@ choiceOf (some p) = Named (record { 0 = p })
 
 abbrev pub betterOf : List ℕ → Choice → Qubit → Choice
 betterOf work NoQubit q = Named q
-betterOf work (Named p) q = cond (ltb (degreeOf work (p .0)) (degreeOf work (q .0))) (Named q) (Named p)
+betterOf work (Named p) q = cond (lighter work (p .0) (q .0)) (Named q) (Named p)
 
 abbrev pub NamedBelow : Choice → ℕ → Type 0
 NamedBelow NoQubit n = Unit {0}
@@ -82,5 +114,5 @@ NamedBelow (Named p) n = p .0 < n
 unfoldable pub namable? : ℕ → ℕ → ℕ → Bool
 namable? n marks work = leb n 1024 && leb n marks && leb 10240 work
 
-unfoldable pub mostOpen : ℕ → List ℕ → List ℕ → Choice
-mostOpen n marks work = cond (namable? n (length marks) (length work)) (choiceOf (most (degreeOf work) n (isOpen (view n marks)))) NoQubit
+unfoldable pub heaviest : ℕ → List ℕ → List ℕ → Choice
+heaviest n marks work = cond (namable? n (length marks) (length work)) (choiceOf (best (lighter work) n (isOpen (view n marks)))) NoQubit

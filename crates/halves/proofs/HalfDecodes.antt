@@ -9,11 +9,12 @@ use native.Mathlib.Omega.{arith}
 use lib.Dec.{eqb, leb}
 use lib.ListN.{length, getD}
 use borrow.Author.Tests.{lt-ltb, le-ltb, le-leb, leb-true}
-use Rattle.binary.specs.Words.{bit}
+use Rattle.binary.specs.Words.{bit, listed}
 use Rattle.binary.proofs.Bits.{bit as cases, never, and-out, and-in}
 use Rattle.binary.proofs.WordBits.{bit-zero, order}
 use Rattle.scans.specs.Rows.{RowLists}
 use Rattle.kept.specs.Kept.{Kept}
+use Rattle.guessing.specs.Guessing.{Weighed}
 use Rattle.machine.specs.declared.Word.{Word}
 use Rattle.machine.specs.declared.HalfReport.{HalfReport}
 use Rattle.halves.specs.declared.HalfAnswer.the-variants.{Refused, Decoded}
@@ -26,10 +27,10 @@ use Rattle.halves.specs.Decode.{Given, ownRows, fitting, Decodes}
 use Rattle.turns.specs.declared.RunAnswer.{RunAnswer}
 use Rattle.turns.specs.declared.RunAnswer.the-variants.{Over}
 use Rattle.turns.specs.declared.RunAnswer.the-variants as turns-answer
-use Rattle.turns.specs.Turns.{Working, Stays}
+use Rattle.turns.specs.Turns.{Working, Stays, isGuessed}
 use Rattle.turns.specs.Runs.{Ran, Runs}
 use Rattle.turns.specs.Runs as runs
-use Rattle.starting.specs.Starting.{Starts}
+use Rattle.starting.specs.Starting.{fixedIn, Begun, Starts}
 use Rattle.starting.specs.Starting as starts
 use Rattle.halves.specs.Starts.{halfIn, Finished, fits?, RowsObey, HalfDone}
 use Rattle.machine.proofs.Values.{value-off}
@@ -96,6 +97,9 @@ module _ (n : ℕ) (c : RowLists) (mid : Working) (correction : List ℕ) (new :
   pub ended-kept : none? (e .word) ≡ false → Kept (isOpen (view n (new .marks))) c (mid .work)
   ended-kept j = subst (λ (m : ℕ → ℕ). Kept (isOpen m) c (mid .work)) (marks-stay j) (v .kept j)
 
+  pub ended-weights : none? (e .word) ≡ false → (q : ℕ) → isGuessed n (new .marks) q ≡ true → Weighed (isOpen (view n (new .marks))) c (mid .work)
+  ended-weights j = subst (λ (m : ℕ → ℕ). (q : ℕ) → eqb (m q) 3 ≡ true → Weighed (isOpen m) c (mid .work)) (marks-stay j) (v .weights j)
+
   pub ended-shows : (old : HalfLists) → Past n old new → Shows n (shown n e) old new
   unfolding shown
   ended-shows old past = record { marks = marks-shown; forms = forms-shown; correction = flips-shown; past = past }
@@ -106,6 +110,15 @@ pub start-fits : (n lost lit first count other others work marks : ℕ) → n �
 unfolding starts.fits?
 start-fits n lost lit first count other others work marks a b d e f g h i j =
     rw (le-leb n 1024 a, le-leb count 512 b, le-leb others 512 d, le-leb first 512 e, le-leb other 512 f, le-leb 10240 work g, le-leb n lost h, le-leb (first + count) lit i, le-leb n marks j)
+
+-- At the start no qubit is guessed.
+none-guessed : (n : ℕ) (c : RowLists) (lost : List ℕ) (other others : ℕ) (work marks : List ℕ) → Begun n c lost other others work marks → (q : ℕ) → isGuessed n marks q ≡ false
+none-guessed n c lost other others work marks b q = ap (λ (m : ℕ → ℕ). eqb (m q) 3) (b .marked) ∙ of (listed n lost q) (fixedIn n c lost other others q)
+  where
+    of : (l f : Bool) → eqb (cond l (cond f 1 4) 0) 3 ≡ false
+    of true true = refl
+    of true false = refl
+    of false f = refl
 
 pub half-done : (n : ℕ) (c : RowLists) (lost : List ℕ) (other others budget limit : ℕ) (marks marks₁ forms correction work work₁ : List ℕ) (mid : Working) (new : HalfLists)
     (a : RunAnswer) (r : HalfReport) → Starts n c lost other others work work₁ marks marks₁ → starts.fitting n c lost other others work marks ≡ true
@@ -123,6 +136,7 @@ half-done n c lost other others budget limit marks marks₁ forms correction wor
       past = past;
       shows = λ obey. let w = ran obey in (w .report, ended-shows n c mid correction new r e w f (record { marks = marks; forms = forms; correction = correction }) past);
       kept = λ obey. ended-kept n c mid correction new r e (ran obey) f;
+      weights = λ obey. ended-weights n c mid correction new r e (ran obey) f;
     }
   where
     e : End
@@ -135,7 +149,7 @@ half-done n c lost other others budget limit marks marks₁ forms correction wor
         let b = starts .begun can-start (obey .own) (obey .other-kind) (obey .commute) in
         subst (λ (x : HalfReport). Ran n c mid x e) same
         (subst (Ran n c mid (o .0)) (sym (decoded-is n c lost other others budget limit marks₁ forms work₁ b))
-        (o .2 (record { good = obey .own; kept = b .keeps .kept; on = b .keeps .on })))
+        (o .2 (record { good = obey .own; kept = b .keeps .kept; on = b .keeps .on; unguessed = none-guessed n c lost other others work₁ marks₁ b })))
 
     stays : Stays n (record { marks = marks; forms = forms; work = work }) mid
     stays = record {
@@ -205,6 +219,7 @@ module _ (g : Given) (work : List ℕ) (old : HalfLists) (told : Bool)
         answered = λ i. never i (fitting-is g (length work) old ∙ sym tells ∙ e);
         decoded = λ i. never i (fitting-is g (length work) old ∙ sym tells ∙ e);
         kept = λ i. never i (fitting-is g (length work) old ∙ sym tells ∙ e);
+        weights = λ i. never i (fitting-is g (length work) old ∙ sym tells ∙ e);
       }
 
   pub decodes-done : told ≡ true → (work′ : List ℕ) (new : HalfLists) (r : HalfReport) → length work′ ≡ length work
@@ -219,4 +234,5 @@ module _ (g : Given) (work : List ℕ) (old : HalfLists) (told : Bool)
         answered = λ i f. let z : _≡_ {A = ℕ} 0 1 = cc in omega arith;
         decoded = λ i obey. let z = v .shows obey in (ap Decoded (z .0), z .1);
         kept = λ i obey ended. v .kept obey ended;
+        weights = λ i obey ended. v .weights obey ended;
       }

@@ -11,9 +11,8 @@ use borrow.Author.Tests.{lt-ltb}
 use Rattle.binary.specs.Meaning.{Check}
 use Rattle.binary.specs.Words.{listed}
 use Rattle.code.specs.Lists.{rowAt, rowsFrom}
-use Rattle.machine.specs.Machine.{isOpen, closed?, takeUpAll, blank, stage, start, degree, most, run, keepIf, readings, checks, decoded}
+use Rattle.machine.specs.Machine.{isOpen, closed?, takeUpAll, blank, stage, start, freest, run, keepIf, readings, checks, decoded}
 use Rattle.scans.specs.Rows.{RowLists, checksFrom, rowChecks}
-use Rattle.guessing.specs.Guessing.{degreeOf}
 use Rattle.starting.specs.Starting.{fixedIn, Begun}
 use Rattle.turns.specs.Runs.{endOf}
 use Rattle.halves.specs.Starts.{halfIn}
@@ -48,6 +47,5 @@ pub decoded-is : (n : ℕ) (c : RowLists) (lost : List ℕ) (other others budget
     → decoded (halfIn n c lost other others) budget limit ≡ endOf n c budget limit (record { marks = marks; forms = forms; work = work })
 unfolding decoded start
 decoded-is n c lost other others budget limit marks forms work begun =
-    ap (λ (cs : List Check). run cs n (most (degree cs) n) budget limit (suc limit) (start cs (listed n lost) (fixedIn n c lost other others))) (checks-are n c lost other others)
-    ∙ sym (begun .ruled budget limit)
-    ∙ ap (λ (m : ℕ → ℕ). run (rowChecks c) n (most (degreeOf work) n) budget limit (suc limit) (stage m 0 (takeUpAll (closed? (isOpen m)) (rowChecks c) blank))) (sym (begun .marked))
+    ap (λ (cs : List Check). run cs n (freest cs n) budget limit (suc limit) (start cs (listed n lost) (fixedIn n c lost other others))) (checks-are n c lost other others)
+    ∙ ap (λ (m : ℕ → ℕ). run (rowChecks c) n (freest (rowChecks c) n) budget limit (suc limit) (stage m 0 (takeUpAll (closed? (isOpen m)) (rowChecks c) blank))) (sym (begun .marked))

@@ -13,6 +13,8 @@ use Rattle.halves.specs.declared.HalfAnswer.{HalfAnswer}
 use Rattle.halves.specs.declared.HalfAnswer.the-variants.{Refused, Decoded}
 use Rattle.scans.specs.Rows.{RowLists}
 use Rattle.kept.specs.Kept.{Kept}
+use Rattle.guessing.specs.Guessing.{Weighed}
+use Rattle.turns.specs.Turns.{isGuessed}
 use Rattle.machine.specs.Machine.{isOpen}
 use Rattle.machine.specs.Report.{none?, outcome}
 use Rattle.machine.specs.Lists.{view, HalfLists, Past, Shows, SameLengths}
@@ -46,7 +48,8 @@ fitting g work l =
 
 -- For every input the lists keep their lengths and what is past n. Where sizes and lists fit, the half is decoded: of rows that are strictly ascending and
 -- below n, and commute, as those of an accepted code are, the answer and the lists are what the machine makes of code, shot, budget and limit, and at any end but
--- none the work list holds what is kept of the half's own rows, a fresh count over the marks (document 02, request b). Otherwise nothing is written.
+-- none the work list holds what is kept of the half's own rows, a fresh count over the marks (document 02, request b), and where a qubit was guessed
+-- the weights of the open qubits (request g). Otherwise nothing is written.
 pub record Decodes (g : Given) (work work′ : List ℕ) (old new : HalfLists) (r : HalfAnswer) : Type 0 where
   pub lengths : SameLengths old new
   pub past : Past (g .n) old new
@@ -59,3 +62,6 @@ pub record Decodes (g : Given) (work work′ : List ℕ) (old new : HalfLists) (
   pub kept : fitting g (length work) old ≡ true → RowsObey (g .n) (ownRows g) (g .other) (g .others)
       → none? (outcome (halfOf (g .n) (g .flat) (g .ends) (g .lost) (g .lit) (g .first) (g .count) (g .other) (g .others)) (g .budget) (g .limit) .report .word) ≡ false
       → Kept (isOpen (view (g .n) (new .marks))) (ownRows g) work′
+  pub weights : fitting g (length work) old ≡ true → RowsObey (g .n) (ownRows g) (g .other) (g .others)
+      → none? (outcome (halfOf (g .n) (g .flat) (g .ends) (g .lost) (g .lit) (g .first) (g .count) (g .other) (g .others)) (g .budget) (g .limit) .report .word) ≡ false
+      → (q : ℕ) → isGuessed (g .n) (new .marks) q ≡ true → Weighed (isOpen (view (g .n) (new .marks))) (ownRows g) work′

@@ -5,7 +5,7 @@
 --   RowsObey    the rows obey document 01
 --   HalfDone    the whole decode of a half
 use mathlib.Core.Path.{_≡_}
-use mathlib.Core.Bool.{Bool, false, _&&_, cond}
+use mathlib.Core.Bool.{Bool, true, false, _&&_, cond}
 use mathlib.Core.List.{List}
 use Prim.Native.Nat.{ℕ, _+_, _%_}
 use lib.Dec.{leb}
@@ -15,6 +15,8 @@ use Rattle.code.specs.Lists.{rowsFrom}
 use Rattle.code.specs.Tests.{Ascending}
 use Rattle.scans.specs.Rows.{RowLists, GoodRows}
 use Rattle.kept.specs.Kept.{Kept}
+use Rattle.guessing.specs.Guessing.{Weighed}
+use Rattle.turns.specs.Turns.{isGuessed}
 use Rattle.machine.specs.declared.Word.{Word}
 use Rattle.machine.specs.declared.HalfReport.{HalfReport}
 use Rattle.machine.specs.Machine.{isOpen, Half}
@@ -58,3 +60,5 @@ pub record HalfDone (n : ℕ) (c : RowLists) (lost : List ℕ) (other others bud
   pub past : Past n old new
   pub shows : RowsObey n c other others → let s = outcome (halfIn n c lost other others) budget limit in (r ≡ s .report) × Shows n s old new
   pub kept : RowsObey n c other others → none? (outcome (halfIn n c lost other others) budget limit .report .word) ≡ false → Kept (isOpen (view n (new .marks))) c work
+  pub weights : RowsObey n c other others → none? (outcome (halfIn n c lost other others) budget limit .report .word) ≡ false
+      → (q : ℕ) → isGuessed n (new .marks) q ≡ true → Weighed (isOpen (view n (new .marks))) c work

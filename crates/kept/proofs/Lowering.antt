@@ -35,7 +35,7 @@ not-has o p (q ∷ r) e =
     rw (d, not-has o p r b)
 
 -- A row that has it, and has no qubit twice, has one open qubit less.
-one-less : (o : Qubits) (p : ℕ) (r : Row) → Distinct r → o p ≡ true → has r p ≡ true → length (part o r) ≡ suc (length (part (put p false o) r))
+pub one-less : (o : Qubits) (p : ℕ) (r : Row) → Distinct r → o p ≡ true → has r p ≡ true → length (part o r) ≡ suc (length (part (put p false o) r))
 one-less o p [] d t e = never e refl
 one-less o p (q ∷ r) d t e =
     bit (eqb q p)
@@ -48,7 +48,7 @@ one-less o p (q ∷ r) d t e =
     let less = one-less o p r (d .1) t rest in
     rw other (bit (o q) (λ y. rw y (ap suc less)) (λ y. rw y less)))
 
-has-none : (b : Bool) (row : Row) (p : ℕ) → has (cond b row []) p ≡ true → (b ≡ true) × (has row p ≡ true)
+pub has-none : (b : Bool) (row : Row) (p : ℕ) → has (cond b row []) p ≡ true → (b ≡ true) × (has row p ≡ true)
 has-none true row p e = (refl, e)
 has-none false row p e = never e refl
 

@@ -13,13 +13,13 @@ use Rattle.binary.proofs.Bits.{bit, never, below-out, not-out}
 use Rattle.machine.specs.declared.Word.{Word}
 use Rattle.machine.specs.declared.Word.the-variants.{Certain, Unsure, None, Spent, Stopped}
 use Rattle.machine.specs.Words.{finished?}
-use Rattle.machine.specs.Machine.{Form, Forms, blank, State, Stage, on, failed, End, Half, keepIf, readings, checks, fixedOf, ruleOf, startOf, decoded, start, startMark, isOpen, closed?, dangling, degree, takeUpAll, stage, turn, noneOpen}
+use Rattle.machine.specs.Machine.{Form, Forms, blank, State, Stage, on, failed, End, Half, keepIf, readings, checks, fixedOf, ruleOf, startOf, decoded, start, startMark, isOpen, closed?, dangling, fewer, takeUpAll, stage, turn, noneOpen}
 use Rattle.machine.specs.Fillings.{filling}
 use Rattle.machine.specs.Report.{Shown, shown, outcome, none?}
 use Rattle.machine.specs.Demands.{Obeys, FitsHalf, VerdictLaw, Fillings, FillingsLaw, ClassesLaw, BudgetsLaw, turnOf, turned, stageOf, CountsLaw, CountedLaw, EmptiedLaw}
 use Rattle.machine.proofs.Runs.{Rule, turnsOf, Said, turn-either, run-keeps, run-said}
 use Rattle.machine.proofs.Stages.{Good, turn-good, start-good}
-use Rattle.machine.proofs.Guessing.{most-rule}
+use Rattle.machine.proofs.Guessing.{best-rule}
 use Rattle.machine.proofs.Budgets.{FewAt, few-stage, Settled, larger}
 use Rattle.machine.proofs.Counts.{Counted, CountedAt, counted-turn, counted-start, BlankAt, blank-turn, blank-start}
 use Rattle.machine.proofs.Verdicts.{failed-fits, values-fit, classes-one, certain-right, unsure-right}
@@ -41,7 +41,7 @@ is-none w e i = never (ap none? i) e
 -- The half of a code and a shot
 
 pub rule-of : (h : Half) → Rule (h .size) (ruleOf h)
-rule-of h = most-rule (degree (checks h)) (h .size)
+rule-of h = best-rule (fewer (checks h)) (h .size)
 
 pub commuting : (others : List Row) (i : ℕ) (lit unread : ℕ → Bool) (rows : List Row) → All (λ r. All (Even r) others) rows
     → Commuting others (readings i lit unread rows)

@@ -1,6 +1,6 @@
--- Where peeling leaves nothing, no qubit is fixed, and no guess is made: the rule is never asked. Assumes nothing.
-use mathlib.Core.Path.{_≡_, refl, sym, ap, _∙_, fun-ext, subst}
-use mathlib.Core.Bool.{Bool, true, false, cond}
+-- Where peeling leaves nothing, no qubit is fixed. Assumes nothing.
+use mathlib.Core.Path.{_≡_, refl, sym, ap, _∙_, fun-ext}
+use mathlib.Core.Bool.{Bool, true, false}
 use mathlib.Core.Option.{Option, none, some}
 use mathlib.Core.List.{List, [], _∷_}
 use Prim.Native.Nat.{ℕ, zero, suc, _+_, _<_}
@@ -10,14 +10,13 @@ use lib.Dec.{eqb}
 use Rattle.binary.specs.Bits.{_⊕_}
 use Rattle.binary.specs.Meaning.{Qubits, Row, Check, Below, All, odd, Inside, product, Fixed, fixed?}
 use Rattle.binary.specs.Classes.{Commuting}
-use Rattle.binary.proofs.Bits.{⊕-false, bit, never, below-out, below-in, not-out, not-in, eqb-eq}
+use Rattle.binary.proofs.Bits.{⊕-false, bit, never, below-out, not-out, eqb-eq}
 use Rattle.binary.proofs.Rows.{all-out, odd-product}
 use Rattle.binary.proofs.Tests.{fixed-out}
-use Rattle.machine.specs.Machine.{Forms, State, Stage, on, failed, put, isOpen, dangling, closed?, closing, takeUpAll, stage, blank, startMark, start, side, peel, turnBy, turn, noneOpen, onward, run, checks}
+use Rattle.machine.specs.Machine.{on, dangling, checks}
 use Rattle.machine.specs.Peeling.{peelStep, peeled, peelsAway, PeelLaw}
-use Rattle.machine.proofs.Runs.{before-cases}
 use Rattle.machine.proofs.Settling.{odd-open, shut-less}
-use Rattle.machine.proofs.Stages.{dangling-is, open-put}
+use Rattle.machine.proofs.Stages.{dangling-is}
 use Rattle.machine.proofs.Demands.{commuting}
 
 ----------------------------------------------------------------------
@@ -86,71 +85,7 @@ pub peeled-less : (cs : List Check) (m : ℕ) (o : Qubits) (q : ℕ) → peeled 
 peeled-less cs zero o q t = t
 peeled-less cs (suc m) o q t = step-less (dangling o cs) o q (peeled-less cs m (peelStep (dangling o cs) o) q t)
 
-----------------------------------------------------------------------
--- No guess is made where peeling leaves nothing
-
 -- Where no row dangles, no step changes anything.
 pub peeled-stays : (cs : List Check) (m : ℕ) (o : Qubits) → dangling o cs ≡ none → peeled cs m o ≡ o
 peeled-stays cs zero o h = refl
 peeled-stays cs (suc m) o h = ap (λ (d : Option (ℕ × Check)). peeled cs m (peelStep d o)) h ∙ peeled-stays cs m o h
-
--- So many steps leave no qubit below n.
-abbrev pub Away : List Check → ℕ → ℕ → Qubits → Type 0
-Away cs n k o = (q : ℕ) → q < n → peeled cs k o q ≡ false
-
-module _ (cs : List Check) (n : ℕ) (choose choose′ : Qubits → Option ℕ) (budget limit : ℕ) where
-  abbrev pub AwayAt : ℕ → Stage → Type 0
-  AwayAt k (on st) = Away cs n k (isOpen (st .mark))
-  AwayAt k (failed st) = Unit {0}
-
-  after : (k p m turns : ℕ) (mark : ℕ → ℕ) (r : Option Forms) → Away cs n k (isOpen (put p m mark)) → AwayAt k (stage (put p m mark) turns r)
-  after k p m turns mark none a = tt
-  after k p m turns mark (some fs) a = a
-
-  -- Where a qubit is open a row dangles, and the turn is a step.
-  steps : (st : State) (k : ℕ) → Away cs n k (isOpen (st .mark)) → noneOpen cs n choose st ≡ false
-      → (turn cs n choose st ≡ turn cs n choose′ st) × ((j : ℕ) × AwayAt j (turn cs n choose st))
-  steps st zero a some-open = never (below-in n _ (λ q l. not-in (a q l))) some-open
-  steps st (suc k) a some-open = look (dangling (isOpen (st .mark)) cs) refl
-    where
-      look : (d : Option (ℕ × Check)) → dangling (isOpen (st .mark)) cs ≡ d
-          → (turn cs n choose st ≡ turn cs n choose′ st) × ((j : ℕ) × AwayAt j (turn cs n choose st))
-      look none h =
-          let stays = peeled-stays cs (suc k) (isOpen (st .mark)) h in
-          never (below-in n _ (λ q l. not-in (sym (ap (λ (o : Qubits). o q) stays) ∙ a q l))) some-open
-      look (some d) h =
-          let next : Away cs n k (isOpen (put (d .0) 2 (st .mark))) =
-          rw (open-put (d .0) 2 (st .mark) refl) (subst (λ (x : Option (ℕ × Check)). Away cs n k (peelStep x (isOpen (st .mark)))) h a) in
-          let fs : Forms = record { form = put (d .0) (side (st .forms) (d .1)) (st .forms .form); live = st .forms .live } in
-          let at : AwayAt k (peel cs st (d .0) (d .1)) =
-          after k (d .0) 2 (suc (st .turns)) (st .mark) (takeUpAll (closing (st .mark) (put (d .0) 2 (st .mark))) cs fs) next in
-          (rw h, (k, subst (λ (x : Option (ℕ × Check)). AwayAt k (turnBy cs n choose st x (choose (isOpen (st .mark))))) (sym h) at))
-
-  pub rule-unasked : (m : ℕ) (s : Stage) (k : ℕ) → AwayAt k s → run cs n choose budget limit m s ≡ run cs n choose′ budget limit m s
-  unfolding run
-  rule-unasked zero (on st) k a = refl
-  rule-unasked zero (failed st) k a = refl
-  rule-unasked (suc m) (failed st) k a = refl
-  rule-unasked (suc m) (on st) k a =
-      before-cases cs n choose budget limit st
-      (λ b. onward cs n choose b st (run cs n choose budget limit m) (turn cs n choose st) ≡ onward cs n choose′ b st (run cs n choose′ budget limit m) (turn cs n choose′ st))
-      (λ w e s. refl)
-      (λ u. let z = steps st k a (u .some-open) in rule-unasked m (turn cs n choose st) (z .1 .0) (z .1 .1) ∙ ap (run cs n choose′ budget limit m) (z .0))
-
--- From the start of a half without a fixed qubit.
-pub unasked : (cs : List Check) (n : ℕ) (lost fixed : Qubits) → ((q : ℕ) → fixed q ≡ false) → peelsAway cs n lost ≡ true
-    → (choose choose′ : Qubits → Option ℕ) (budget limit m : ℕ) → run cs n choose budget limit m (start cs lost fixed) ≡ run cs n choose′ budget limit m (start cs lost fixed)
-unfolding peelsAway start
-unasked cs n lost fixed none-fixed away choose choose′ budget limit m =
-    rule-unasked cs n choose choose′ budget limit m (start cs lost fixed) n (at (takeUpAll (closed? (isOpen (startMark lost fixed))) cs blank))
-  where
-    marks : (b f : Bool) → f ≡ false → eqb (cond b (cond f 1 4) 0) 4 ≡ b
-    marks true f e = rw e
-    marks false f e = refl
-
-    opened : isOpen (startMark lost fixed) ≡ lost
-    opened = fun-ext (λ q. marks (lost q) (fixed q) (none-fixed q))
-
-    at : (r : Option Forms) → AwayAt cs n choose choose′ budget limit n (stage (startMark lost fixed) 0 r)
-    at none = tt
-    at (some fs) = λ q l. ap (λ (o : Qubits). peeled cs n o q) opened ∙ not-out (peeled cs n lost q) (below-out n _ away q l)

@@ -4,7 +4,7 @@ use mathlib.Core.Bool.{Bool, false, not}
 use mathlib.Core.List.{List, [], _∷_}
 use Prim.Native.Nat.{ℕ, suc}
 use Rattle.binary.specs.Meaning.{Row, Check}
-use Rattle.machine.specs.Machine.{keepIf, readings, checks, fixedOf, start, degree, most, run, decoded}
+use Rattle.machine.specs.Machine.{keepIf, readings, checks, fixedOf, start, freest, run, decoded}
 use Rattle.machine.specs.Report.{shown}
 use Rattle.machine.specs.Unread.{everyRow, before, AllReadLaw}
 
@@ -21,5 +21,5 @@ all-read h none =
     record {
       checks = same;
       outcome = λ budget limit.
-          ap (λ (cs : List Check). shown (h .size) (run cs (h .size) (most (degree cs) (h .size)) budget limit (suc limit) (start cs (h .lost) (fixedOf h)))) same;
+          ap (λ (cs : List Check). shown (h .size) (run cs (h .size) (freest cs (h .size)) budget limit (suc limit) (start cs (h .lost) (fixedOf h)))) same;
     }

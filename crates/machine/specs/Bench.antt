@@ -1,16 +1,18 @@
--- The bench shots P1 to P12 (document 01, "Bench shots"): one listed check on the meanings, of the X half; and a second one, of shots with unread
--- rows (document 02, request a).
+-- The bench shots P1 to P12 (document 01, "Bench shots"): one listed check on the meanings, of the X half; a second one, of shots with unread
+-- rows (document 02, request a); and a third, of the guess rule (request g).
 --   Bench           a row of the check: code, shot and limits, and what comes out: word, the four counts and the flips
 --   BenchLaw        each row of P1 to P12 comes out as listed
 --   UnreadBenchLaw  each row of the second check does
+--   GuessBenchLaw   each row of the third does: rows and open qubits, and the qubit that is named
 use mathlib.Core.Path.{_≡_}
+use mathlib.Core.Option.{Option, some}
 use mathlib.Core.List.{List, [], _∷_, _++_, map}
 use Prim.Native.Nat.{ℕ, zero, suc}
 use Rattle.binary.specs.Meaning.{Qubits, Row, has}
 use Rattle.machine.specs.declared.Word.{Word}
 use Rattle.machine.specs.declared.Word.the-variants.{Certain, Unsure, None, Spent, Stopped}
 use Rattle.machine.specs.declared.HalfReport.{HalfReport}
-use Rattle.machine.specs.Machine.{Half, keepIf}
+use Rattle.machine.specs.Machine.{Half, keepIf, ruleOf}
 use Rattle.machine.specs.Report.{outcome}
 
 pub record Bench : Type 0 where
@@ -109,3 +111,37 @@ unreadBench =
 
 unfoldable pub UnreadBenchLaw : Type 0
 UnreadBenchLaw = map comes unreadBench ≡ map listed unreadBench
+
+----------------------------------------------------------------------
+-- The guess rule
+
+pub record Guess : Type 0 where
+  pub rows : List Row
+  pub unread : List ℕ
+  pub still : List ℕ
+  pub named : Option ℕ
+
+abbrev pub names : Guess → Option ℕ
+names g = ruleOf (xHalf 6 [] (g .rows) (g .still) [] (g .unread)) (has (g .still))
+
+abbrev guess : List Row → List ℕ → List ℕ → ℕ → Guess
+guess rows unread still p = record { rows = rows; unread = unread; still = still; named = some p }
+
+abbrev all : List ℕ
+all = 0 ∷ 1 ∷ 2 ∷ 3 ∷ 4 ∷ 5 ∷ []
+
+-- One row with two open qubits comes before three with three. Of equals the one on two rows. Of equals in both the lowest. A settled qubit does not count in its
+-- row. A row with one open qubit is not such a row. Nor is an unread one; nor does it settle equals.
+unfoldable pub guessBench : List Guess
+guessBench =
+    guess ((0 ∷ 1 ∷ 2 ∷ []) ∷ (0 ∷ 1 ∷ 3 ∷ []) ∷ (0 ∷ 2 ∷ 3 ∷ []) ∷ (4 ∷ 5 ∷ []) ∷ []) [] all 4
+    ∷ guess ((0 ∷ 1 ∷ []) ∷ (2 ∷ 3 ∷ []) ∷ (3 ∷ 4 ∷ 5 ∷ []) ∷ []) [] all 3
+    ∷ guess ((0 ∷ 1 ∷ []) ∷ (2 ∷ 3 ∷ []) ∷ []) [] all 0
+    ∷ guess ((0 ∷ 1 ∷ 2 ∷ []) ∷ (3 ∷ 4 ∷ 5 ∷ []) ∷ []) [] (0 ∷ 1 ∷ 2 ∷ 4 ∷ 5 ∷ []) 4
+    ∷ guess ((0 ∷ []) ∷ (1 ∷ 2 ∷ []) ∷ []) [] all 1
+    ∷ guess ((0 ∷ 1 ∷ []) ∷ (2 ∷ 3 ∷ []) ∷ []) (0 ∷ []) all 2
+    ∷ guess ((0 ∷ 1 ∷ []) ∷ (1 ∷ 2 ∷ 3 ∷ []) ∷ (4 ∷ 5 ∷ []) ∷ []) (1 ∷ []) all 0
+    ∷ []
+
+unfoldable pub GuessBenchLaw : Type 0
+GuessBenchLaw = map names guessBench ≡ map (λ g. g .named) guessBench

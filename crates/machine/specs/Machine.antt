@@ -9,15 +9,16 @@
 --   before       the tests before a turn, in their order
 --   turn         the lowest dangling row's open qubit gets the row's side, or a qubit becomes a new live guess
 --   run          turns until a test ends the half
---   most         the open qubit on most rows, the lowest of equals
+--   freest       the open qubit on most rows with two open qubits, then on most rows, then the lowest
 --   checks       the half's rows that were read, with their readings
 --   decoded      how the half of a code and a shot ends, with a guess budget and a turn limit
 -- The machine takes the rule by which the guessed qubit is chosen as a parameter.
-use mathlib.Core.Bool.{Bool, true, false, not, _&&_, cond}
+use mathlib.Core.Bool.{Bool, true, false, not, _&&_, _||_, cond}
 use mathlib.Core.Option.{Option, none, some}
 use mathlib.Core.List.{List, [], _∷_}
 use Prim.Native.Nat.{ℕ, zero, suc}
 use lib.Dec.{eqb, ltb}
+use lib.ListN.{length}
 use Rattle.binary.specs.Bits.{_⊕_, below, count}
 use Rattle.binary.specs.Meaning.{Qubits, Row, Check, has, odd, fixed?}
 use Rattle.machine.specs.declared.Word.{Word}
@@ -224,20 +225,41 @@ module _ (checks : List Check) (n : ℕ) (choose : Qubits → Option ℕ) where
   run budget limit (suc m) (failed st) = record { word = None; state = st }
 
 ----------------------------------------------------------------------
--- The guess rule: the open qubit on most rows of the half, the lowest of equals
+-- The guess rule (document 02, request g): the open qubit on most rows that have exactly two open qubits; equals are settled by most rows of the half, then
+-- by the lowest number
+
+-- How many of the rows pass a test.
+abbrev pub passing : (Check → Bool) → List Check → ℕ
+passing t [] = 0
+passing t (c ∷ cs) = count (t c) (passing t cs)
+
+-- A row has exactly two open qubits: with one of them guessed it dangles.
+abbrev pub pair? : Qubits → Check → Bool
+pair? o c = eqb (length (part o (c .row))) 2
+
+-- The rows on a qubit that have exactly two open qubits, and all rows of the half on it.
+abbrev pub pairs : Qubits → List Check → ℕ → ℕ
+pairs o cs q = passing (λ c. pair? o c && has (c .row) q) cs
 
 abbrev pub degree : List Check → ℕ → ℕ
-degree [] q = 0
-degree (c ∷ cs) q = count (has (c .row) q) (degree cs q)
+degree cs q = passing (λ c. has (c .row) q) cs
 
-abbrev pub better : Bool → (ℕ → ℕ) → ℕ → Option ℕ → Option ℕ
-better false deg q b = b
-better true deg q none = some q
-better true deg q (some p) = cond (ltb (deg p) (deg q)) (some q) (some p)
+-- Qubit p is on fewer rows that have exactly two open qubits than q, or on as many and on fewer rows.
+abbrev pub fewer : List Check → Qubits → ℕ → ℕ → Bool
+fewer cs o p q = ltb (pairs o cs p) (pairs o cs q) || (eqb (pairs o cs p) (pairs o cs q) && ltb (degree cs p) (degree cs q))
 
-abbrev pub most : (ℕ → ℕ) → ℕ → Qubits → Option ℕ
-most deg zero o = none
-most deg (suc n) o = better (o n) deg n (most deg n o)
+-- The better of the qubit found so far and of q, where q is open. On equals the lower one stays.
+abbrev pub better : Bool → (ℕ → ℕ → Bool) → ℕ → Option ℕ → Option ℕ
+better false behind q b = b
+better true behind q none = some q
+better true behind q (some p) = cond (behind p q) (some q) (some p)
+
+abbrev pub best : (ℕ → ℕ → Bool) → ℕ → Qubits → Option ℕ
+best behind zero o = none
+best behind (suc n) o = better (o n) behind n (best behind n o)
+
+abbrev pub freest : List Check → ℕ → Qubits → Option ℕ
+freest cs n o = best (fewer cs o) n o
 
 ----------------------------------------------------------------------
 -- The half of a code and a shot
@@ -265,7 +287,7 @@ abbrev pub fixedOf : Half → Qubits
 fixedOf h = fixed? (h .size) (h .others) (h .lost)
 
 abbrev pub ruleOf : Half → Qubits → Option ℕ
-ruleOf h = most (degree (checks h)) (h .size)
+ruleOf h = freest (checks h) (h .size)
 
 abbrev pub startOf : Half → Stage
 startOf h = start (checks h) (h .lost) (fixedOf h)

@@ -8,7 +8,7 @@ use mathlib.Core.Bool.{Bool, false}
 use mathlib.Core.List.{List, [], _∷_}
 use Prim.Native.Nat.{ℕ, suc}
 use Rattle.binary.specs.Meaning.{Row, Check}
-use Rattle.machine.specs.Machine.{End, Half, checks, fixedOf, start, degree, most, run}
+use Rattle.machine.specs.Machine.{End, Half, checks, fixedOf, start, freest, run}
 use Rattle.machine.specs.Report.{shown, outcome}
 
 -- From row i on.
@@ -19,7 +19,7 @@ everyRow i lit (r ∷ rs) = record { lit = lit i; row = r } ∷ everyRow (suc i)
 unfoldable pub before : Half → ℕ → ℕ → End
 before h budget limit =
     let cs = everyRow 0 (h .lit) (h .rows) in
-    run cs (h .size) (most (degree cs) (h .size)) budget limit (suc limit) (start cs (h .lost) (fixedOf h))
+    run cs (h .size) (freest cs (h .size)) budget limit (suc limit) (start cs (h .lost) (fixedOf h))
 
 pub record AllRead (h : Half) : Type 0 where
   pub checks : checks h ≡ everyRow 0 (h .lit) (h .rows)

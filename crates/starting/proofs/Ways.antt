@@ -2,7 +2,6 @@
 use mathlib.Core.Path.{_≡_, refl, sym, ap, _∙_, fun-ext, subst}
 use mathlib.Core.Bool.{Bool, true, false, not}
 use mathlib.Core.Logic.{_⊎_, inl, inr}
-use mathlib.Core.Option.{Option}
 use mathlib.Core.List.{List}
 use Prim.Native.Nat.{ℕ, zero, suc, _+_, _≤_, _<_}
 use native.Mathlib.Omega.{arith}
@@ -17,10 +16,10 @@ use Rattle.lists.specs.Copied.{apart?, Copied}
 use Rattle.code.specs.Lists.{rowsFrom}
 use Rattle.code.specs.Tests.{Ascending}
 use Rattle.code.proofs.Order.{rows-below}
-use Rattle.machine.specs.Machine.{isOpen, keepIf, startMark, start, degree, most, run}
+use Rattle.machine.specs.Machine.{isOpen, keepIf, startMark}
 use Rattle.machine.specs.Lists.{view}
 use Rattle.machine.specs.Peeling.{peelsAway}
-use Rattle.machine.proofs.Peeling.{unfixed, unasked}
+use Rattle.machine.proofs.Peeling.{unfixed}
 use Rattle.scans.specs.Rows.{RowLists, read?, checkAt, checksFrom, rowChecks, GoodRows}
 use Rattle.scans.proofs.Scanning.{open-below}
 use Rattle.kept.specs.Kept.{Kept, RowsOn}
@@ -31,11 +30,8 @@ use Rattle.peeling.specs.Peeling as peeling
 use Rattle.peeling.specs.Peeling.{Peels, Ready, rowsIn}
 use Rattle.search.specs.declared.Search.{Search}
 use Rattle.search.specs.Marked.{Marked}
-use Rattle.guessing.specs.Guessing.{degreeOf, countable?, Counts}
-use Rattle.guessing.proofs.Choices.{counted-rule}
-use Rattle.guessing.proofs.Room.{counts-long}
 use Rattle.starting.specs.Fills.{Filled, openMark}
-use Rattle.starting.specs.Starting.{PackedFrom, fixedIn, Keeps, Saves, Restores, PeeledFirst, Searched, Begun, fits?, fitting, Starts}
+use Rattle.starting.specs.Starting.{PackedFrom, Keeps, Saves, Restores, PeeledFirst, Searched, Begun, fits?, fitting, Starts}
 use Rattle.starting.proofs.Marks.{listed-below, open-marks, open-lost, long-enough, fixed-marks}
 
 ----------------------------------------------------------------------
@@ -168,35 +164,21 @@ module _ (n : ℕ) (c : RowLists) (lost work work₁ work₂ work₃ marks marks
 ----------------------------------------------------------------------
 -- The search
 
-module _ (n : ℕ) (c : RowLists) (lost : List ℕ) (other others : ℕ) (work work₁ work₂ work₃ work₄ marks marks′ : List ℕ) (r : Search) (size : n ≤ 1024) (many : others ≤ 512)
+module _ (n : ℕ) (c : RowLists) (lost : List ℕ) (other others : ℕ) (work work₁ work₂ work₃ marks marks′ : List ℕ) (r : Search) (size : n ≤ 1024) (many : others ≤ 512)
     (words : 10240 ≤ length work) (long : n ≤ length lost) (room : n ≤ length marks)
     (packed : PackedFrom n (c .flat) (c .ends) other others work work₁) (fixes : Marked n others lost work₁ marks work₂ marks′ r)
-    (filled : Fills n c marks′ work₂ work₃) (counts : Counts n (c .flat) (c .ends) (c .lit) (c .first) (c .count) work₃ work₄) where
-  long-then : length work₃ ≡ length work
-  long-then = filled .long ∙ fixes .work-size ∙ packed .long
-
-  countable : c .first + c .count ≤ length (c .lit) → c .first ≤ 512 → c .count ≤ 512 → countable? n (c .first) (c .count) (length (c .lit)) (length work₃) ≡ true
-  unfolding countable?
-  countable lit first few =
-      let l = long-then in
-      rw (le-leb n 1024 size, le-leb (c .first + c .count) 1024 (omega arith), le-leb (c .first + c .count) (length (c .lit)) lit, le-leb 10240 (length work₃) (omega arith))
-
-  pub searched : Searched n c lost other others work work₄ marks marks′
+    (filled : Fills n c marks′ work₂ work₃) where
+  pub searched : Searched n c lost other others work work₃ marks marks′
   searched =
+      let l : length work₂ ≡ length work = fixes .work-size ∙ packed .long in
       record {
-        work-long = counts-long n (c .flat) (c .ends) (c .lit) (c .first) (c .count) work₃ work₄ counts ∙ long-then;
+        work-long = filled .long ∙ l;
         marks-long = fixes .size;
         rest = fixes .rest;
         marked = λ opened good.
             fixed-marks n (c .flat) (c .ends) lost other others marks marks′ work work₁ work₂ r packed fixes
             (long-enough n (c .flat) (c .ends) lost other others marks marks′ work work₁ work₂ r packed fixes size many (omega arith) long room) opened good;
-        keeps = λ lit first few good.
-            let l = long-then in
-            let m = filled .long in
-            keeps-below n c work₃ work₄ marks′ size few (counts .counts (countable lit first few) .below)
-            (filled-keeps n c marks′ work₂ work₃ size few (omega arith) lit (omega arith) filled good);
-        degrees = λ lit first few good o.
-            counted-rule n (c .flat) (c .ends) (c .lit) (c .first) (c .count) work₃ work₄ o (counts .counts (countable lit first few)) good;
+        keeps = λ lit first few good. filled-keeps n c marks′ work₂ work₃ size few (omega arith) lit (omega arith) filled good;
       }
 
 ----------------------------------------------------------------------
@@ -271,7 +253,6 @@ module _ (n : ℕ) (c : RowLists) (lost : List ℕ) (other others : ℕ) (work m
               marked = open-marks n lost marks₁ (first .opened .first) ∙ ap (startMark (listed n lost)) (sym (fun-ext none-fixed));
               keeps = keeps-same n c (s .work) work₂ marks₁ (f .size) (f .few) (λ k h. restored .stays k h ∙ s .below k h) (λ j h. restored .set j h ∙ s .set j h)
                   (λ j h. restored .counts j h ∙ s .counts j h) (s .keeps);
-              ruled = λ budget limit. unasked (rowChecks c) n (listed n lost) (fixedIn n c lost other others) none-fixed leaves (most (degreeOf work₂) n) (most (degree (rowChecks c)) n) budget limit (suc limit);
             }
 
     -- The search is made.
@@ -287,8 +268,5 @@ module _ (n : ℕ) (c : RowLists) (lost : List ℕ) (other others : ℕ) (work m
               record {
                 marked = v .marked (first .opened .first) others-good;
                 keeps = v .keeps (f .lit) (f .first) (f .few) good;
-                ruled = λ budget limit.
-                    ap (λ (rule : Qubits → Option ℕ). run (rowChecks c) n rule budget limit (suc limit) (start (rowChecks c) (listed n lost) (fixedIn n c lost other others)))
-                    (fun-ext (v .degrees (f .lit) (f .first) (f .few) good));
               };
         }

@@ -5,12 +5,12 @@
 --   Saves        what is kept of the rows copied, and back: Restores
 --   PeeledFirst  whether the lost qubits peel away
 --   Searched     the fixed qubits marked
---   Begun        the marks are the start's, and the rule that the work list gives leads to the same end as the machine's
+--   Begun        the marks are the start's, and what is kept of the rows is right over them
 --   Starts       the promise of `start`
 use mathlib.Core.Path.{_≡_}
 use mathlib.Core.Bool.{Bool, true, false, _&&_}
 use mathlib.Core.List.{List}
-use Prim.Native.Nat.{ℕ, suc, _+_, _≤_, _<_}
+use Prim.Native.Nat.{ℕ, _+_, _≤_, _<_}
 use lib.Dec.{leb}
 use lib.ListN.{length, getD}
 use Rattle.binary.specs.Meaning.{Qubits, All, Commute, fixed?}
@@ -18,12 +18,11 @@ use Rattle.binary.specs.Words.{listed}
 use Rattle.packing.specs.Packed.{wordsFor, Packed}
 use Rattle.code.specs.Lists.{rowsFrom}
 use Rattle.code.specs.Tests.{Ascending}
-use Rattle.machine.specs.Machine.{isOpen, startMark, start, degree, most, run}
+use Rattle.machine.specs.Machine.{isOpen, startMark}
 use Rattle.machine.specs.Lists.{view}
 use Rattle.machine.specs.Peeling.{peelsAway}
 use Rattle.scans.specs.Rows.{RowLists, rowChecks, GoodRows}
 use Rattle.kept.specs.Kept.{Kept, RowsOn}
-use Rattle.guessing.specs.Guessing.{degreeOf}
 use Rattle.starting.specs.Fills.{Filled, openMark}
 
 pub record PackedFrom (n : ℕ) (flat ends : List ℕ) (other others : ℕ) (work work′ : List ℕ) : Type 0 where
@@ -76,8 +75,6 @@ pub record Searched (n : ℕ) (c : RowLists) (lost : List ℕ) (other others : �
   pub marked : ((q : ℕ) → q < n → getD marks q 0 ≡ openMark n lost q) → All (Ascending n) (rowsFrom (c .flat) (c .ends) other others)
       → view n marks′ ≡ startMark (listed n lost) (fixedIn n c lost other others)
   pub keeps : c .first + c .count ≤ length (c .lit) → c .first ≤ 512 → c .count ≤ 512 → GoodRows n c → Keeps n c work′ marks′
-  pub degrees : c .first + c .count ≤ length (c .lit) → c .first ≤ 512 → c .count ≤ 512 → GoodRows n c
-      → (o : Qubits) → most (degreeOf work′) n o ≡ most (degree (rowChecks c)) n o
 
 ----------------------------------------------------------------------
 -- The promise
@@ -85,8 +82,6 @@ pub record Searched (n : ℕ) (c : RowLists) (lost : List ℕ) (other others : �
 pub record Begun (n : ℕ) (c : RowLists) (lost : List ℕ) (other others : ℕ) (work marks : List ℕ) : Type 0 where
   pub marked : view n marks ≡ startMark (listed n lost) (fixedIn n c lost other others)
   pub keeps : Keeps n c work marks
-  pub ruled : (budget limit : ℕ) → let s = start (rowChecks c) (listed n lost) (fixedIn n c lost other others) in
-      run (rowChecks c) n (most (degreeOf work) n) budget limit (suc limit) s ≡ run (rowChecks c) n (most (degree (rowChecks c)) n) budget limit (suc limit) s
 
 unfoldable pub fits? : ℕ → ℕ → ℕ → ℕ → ℕ → ℕ → ℕ → ℕ → ℕ → Bool
 fits? n lost lit first count other others work marks =

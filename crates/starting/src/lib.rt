@@ -91,7 +91,7 @@ fn peel_first(
     away
 }
 
-// The fixed qubits are found, and marked; then the rows are kept anew, and the rows on each qubit counted.
+// The fixed qubits are found, and marked; then the rows are kept anew.
 fn search_fixed(
     n: u16,
     flat: &[u16],
@@ -109,7 +109,6 @@ fn search_fixed(
     pack_rows(n, flat, ends, others, work);
     search::mark_fixed(n, others.count as usize, lost, work, marks);
     filling::fill(n, flat, ends, lit, own, marks, work);
-    guessing::count_rows(n, flat, ends, lit, own, work);
 }
 
 // Whether the sizes are document 01's and the lists long enough.

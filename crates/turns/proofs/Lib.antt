@@ -1,3 +1,4 @@
+pub mod Stays
 pub mod Turning
 pub mod Moves
 pub mod Running

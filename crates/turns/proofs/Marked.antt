@@ -15,7 +15,7 @@ use Rattle.binary.proofs.WordBits.{order, bit-zero}
 use Rattle.lists.specs.Cleared.{Cleared}
 use Rattle.machine.specs.declared.Word.the-variants.{None}
 use Rattle.machine.specs.declared.HalfReport.{HalfReport}
-use Rattle.machine.specs.Machine.{Form, on, isOpen, blank, stage, run}
+use Rattle.machine.specs.Machine.{Form, on, isOpen, blank, stage, freest, run}
 use Rattle.machine.specs.Report.{marked}
 use Rattle.machine.specs.Lists.{view, formsOf}
 use Rattle.scans.specs.Rows.{RowLists, rowChecks}
@@ -24,9 +24,10 @@ use Rattle.closing.specs.Closing.{LitClosed}
 use Rattle.turns.specs.declared.RunAnswer.the-variants.{Refused, Over}
 use Rattle.turns.specs.declared.Ended.{Ended}
 use Rattle.turns.specs.Lists.{stateOf}
-use Rattle.turns.specs.Turns.{Working, Stays, Ready, mostBy, EndedAs, runFrom, RunEnds}
+use Rattle.turns.specs.Turns.{Working, Stays, Ready, EndedAs, runFrom, RunEnds}
 use Rattle.turns.specs.Runs.{stageIn, Begins, TurnedHalf, reportBy, RanHalf, fits?, fitting, Runs}
-use Rattle.turns.proofs.Running.{run-failed, stays-on}
+use Rattle.turns.proofs.Stays.{stays-on}
+use Rattle.turns.proofs.Running.{run-failed}
 
 ----------------------------------------------------------------------
 -- The start
@@ -55,16 +56,16 @@ module _ (n : ℕ) (c : RowLists) (budget limit : ℕ) (old : Working) (forms₁
         stays = stays-mid;
         ends = λ b.
             subst (EndedAs n c now (record { word = None; turns = 0; live = 0 }))
-            (sym (run-failed (rowChecks c) n (mostBy n (old .work)) budget limit (suc limit) (record { mark = view n (old .marks); forms = blank; turns = 0 }))
-            ∙ ap (run (rowChecks c) n (mostBy n (old .work)) budget limit (suc limit)) (sym (begun b ∙ ap (λ (x : Bool). stage (view n (old .marks)) 0 (cond x none (some blank))) e)))
-            (record { word = refl; turns = refl; live = refl; marks = refl; forms = λ j. never refl j; kept = λ j. never refl j });
+            (sym (run-failed (rowChecks c) n (freest (rowChecks c) n) budget limit (suc limit) (record { mark = view n (old .marks); forms = blank; turns = 0 }))
+            ∙ ap (run (rowChecks c) n (freest (rowChecks c) n) budget limit (suc limit)) (sym (begun b ∙ ap (λ (x : Bool). stage (view n (old .marks)) 0 (cond x none (some blank))) e)))
+            (record { word = refl; turns = refl; live = refl; marks = refl; forms = λ j. never refl j; kept = λ j. never refl j; weights = λ j. never refl j });
       }
 
   clear : formsOf n forms₁ ≡ (λ q k. false)
   clear = blank-forms n (old .forms) forms₁ cleared
 
-  start-ready : Begins n c old → Ready n c 0 now
-  start-ready b = record { topped = λ q k l. ap (λ (g : ℕ → Form). g q k) clear; kept = b .kept; on = b .on }
+  start-ready : Begins n c old → Ready n c 0 false now
+  start-ready b = record { topped = λ q k l. ap (λ (g : ℕ → Form). g q k) clear; kept = b .kept; on = b .on; weights = λ e. never e refl; unguessed = λ e. b .unguessed }
 
   here : told ≡ false → Begins n c old → stageIn n c (old .marks) ≡ on (stateOf n (old .marks) forms₁ 0 0)
   here e b =
@@ -77,7 +78,7 @@ module _ (n : ℕ) (c : RowLists) (budget limit : ℕ) (old : Working) (forms₁
       record {
         stays = stays-on n old now new stays-mid (v .stays);
         ends = λ b.
-            subst (EndedAs n c new r) (sym (ap (run (rowChecks c) n (mostBy n (old .work)) budget limit (suc limit)) (here e b)))
+            subst (EndedAs n c new r) (sym (ap (run (rowChecks c) n (freest (rowChecks c) n) budget limit (suc limit)) (here e b)))
             (v .ends (b .good) (start-ready b) zero-le);
       }
 
@@ -104,6 +105,7 @@ ran-half n c budget limit old new e r v told =
             marks = w .marks;
             forms = w .forms;
             kept = w .kept;
+            weights = w .weights;
           };
     }
 

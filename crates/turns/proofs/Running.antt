@@ -1,5 +1,5 @@
 -- The loop over the turns is the machine's run. Assumes nothing.
-use mathlib.Core.Path.{_≡_, refl, sym, ap, ap₂, _∙_, fun-ext, subst}
+use mathlib.Core.Path.{_≡_, refl, sym, ap, ap₂, _∙_, subst}
 use mathlib.Core.Bool.{Bool, true, false}
 use mathlib.Core.Option.{Option, none, some}
 use mathlib.Core.List.{List}
@@ -8,7 +8,7 @@ use native.Mathlib.Omega.{arith}
 use native.Mathlib.Numerals.{add-one, lt-of-le-of-ne}
 use lib.Dec.{eqb}
 use Rattle.binary.specs.Meaning.{Qubits, Check}
-use Rattle.binary.proofs.Bits.{never, eq-eqb, eqb-differ, none-counted}
+use Rattle.binary.proofs.Bits.{bit, never, eq-eqb, eqb-differ, none-counted}
 use Rattle.machine.specs.declared.Word.{Word}
 use Rattle.machine.specs.declared.Word.the-variants.{None, Stopped}
 use Rattle.machine.specs.declared.Word
@@ -18,18 +18,19 @@ use Rattle.turns.specs.declared.Move.{Move}
 use Rattle.turns.specs.declared.Move.the-variants.{Spent, Made}
 use Rattle.turns.specs.declared.Ended.{Ended}
 use Rattle.machine.specs.Words.{finished}
-use Rattle.machine.specs.Machine.{State, Stage, on, failed, End, isOpen, noneOpen, before, most, turn, run}
+use Rattle.machine.specs.Machine.{State, Stage, on, failed, End, isOpen, noneOpen, before, fewer, freest, turn, run}
 use Rattle.machine.specs.Report.{marked}
 use Rattle.machine.specs.Lists.{view}
 use Rattle.turns.specs.Lists.{stateOf}
 use Rattle.scans.specs.Rows.{RowLists, rowChecks, GoodRows}
 use Rattle.scans.proofs.Scanning.{open-below, some-open}
-use Rattle.guessing.specs.Guessing.{degreeOf}
-use Rattle.turns.specs.Turns.{Working, Stays, Ready, StageAs, Turns, turnBy, mostBy, spent?, MovedBy, Moved, EndedAs, runFrom, RunEnds}
+use Rattle.guessing.specs.Guessing.{Weighed}
+use Rattle.turns.specs.Turns.{Working, Stays, isGuessed, Ready, StageAs, Turns, turnBy, spent?, MovedBy, Moved, EndedAs, runFrom, RunEnds}
 use Rattle.machine.proofs.Runs.{Unsaid}
-use Rattle.machine.proofs.Guessing.{most-rule}
+use Rattle.machine.proofs.Guessing.{best-rule}
 use Rattle.machine.proofs.Budgets.{FewAt, few-turn}
 use Rattle.machine.proofs.Counts.{OpenAt, open-turn}
+use Rattle.turns.proofs.Stays.{stays-on}
 
 ----------------------------------------------------------------------
 -- The machine's run
@@ -53,65 +54,54 @@ run-failed checks n choose budget limit (suc m) st = refl
 ----------------------------------------------------------------------
 -- The loop
 
-pub stays-on : (n : ℕ) (old mid new : Working) → Stays n old mid → Stays n mid new → Stays n old new
-stays-on n old mid new a b =
-    record {
-      marks-long = b .marks-long ∙ a .marks-long;
-      forms-long = b .forms-long ∙ a .forms-long;
-      work-long = b .work-long ∙ a .work-long;
-      marks-rest = λ q i. b .marks-rest q i ∙ a .marks-rest q i;
-      forms-rest = λ q i. b .forms-rest q i ∙ a .forms-rest q i;
-    }
-
 module _ (n : ℕ) (c : RowLists) (budget limit : ℕ) (old : Working) (begun : ℕ) where
-  abbrev degrees : List ℕ
-  degrees = old .work
-
   abbrev whole : End
-  whole = runFrom n c degrees budget limit (suc limit) old begun 0
+  whole = runFrom n c budget limit (suc limit) old begun 0
 
   -- So far: the half that is left to run ends as the whole one.
-  pub record Running (l : Working) (live turns left : ℕ) : Type 0 where
-    pub same : runFrom n c degrees budget limit (suc (limit - turns)) l live turns ≡ runFrom n c degrees budget limit (suc limit) old begun 0
+  pub record Running (l : Working) (live : ℕ) (weighed : Bool) (turns left : ℕ) : Type 0 where
+    pub same : runFrom n c budget limit (suc (limit - turns)) l live turns ≡ runFrom n c budget limit (suc limit) old begun 0
     pub count : left ≡ marked n (view n (l .marks)) 4
-    pub ready : Ready n c live l
+    pub ready : Ready n c live weighed l
     pub few : live ≤ budget
-    pub degrees : (q : ℕ) → degreeOf (l .work) q ≡ degreeOf degrees q
 
   -- Whatever the lists hold: their lengths, and elements past n, stay.
-  pub record Goes (l : Working) (live turns left : ℕ) : Type 0 where
+  pub record Goes (l : Working) (live : ℕ) (weighed : Bool) (turns left : ℕ) : Type 0 where
     pub stays : Stays n old l
     pub within : turns ≤ limit
-    pub so : GoodRows n c → Ready n c begun old → begun ≤ budget → Running l live turns left
+    pub so : GoodRows n c → Ready n c begun false old → begun ≤ budget → Running l live weighed turns left
 
-  pub goes-start : (left : ℕ) → left ≡ marked n (view n (old .marks)) 4 → Goes old begun 0 left
+  pub goes-start : (left : ℕ) → left ≡ marked n (view n (old .marks)) 4 → Goes old begun false 0 left
   goes-start left e =
       record {
         stays = record { marks-long = refl; forms-long = refl; work-long = refl; marks-rest = λ q l. refl; forms-rest = λ q l. refl };
         within = zero-le;
         so = λ good ready few. record {
-          same = let z : limit - 0 ≡ limit = omega arith in ap (λ (k : ℕ). runFrom n c (old .work) budget limit (suc k) old begun 0) z;
+          same = let z : limit - 0 ≡ limit = omega arith in ap (λ (k : ℕ). runFrom n c budget limit (suc k) old begun 0) z;
           count = e;
           ready = ready;
           few = few;
-          degrees = λ q. refl;
         };
       }
 
-  module _ (l : Working) (live turns left : ℕ) (g : Goes l live turns left) where
+  module _ (l : Working) (live : ℕ) (weighed : Bool) (turns left : ℕ) (g : Goes l live weighed turns left) where
     abbrev st : State
     st = stateOf n (l .marks) (l .forms) live turns
 
     abbrev rule : Qubits → Option ℕ
-    rule = mostBy n (old .work)
+    rule = freest (rowChecks c) n
+
+    -- Where a qubit is guessed, the weights are kept.
+    weights-at : Running l live weighed turns left → (q : ℕ) → isGuessed n (l .marks) q ≡ true → Weighed (isOpen (view n (l .marks))) c (l .work)
+    weights-at v q e = bit weighed (λ t. v .ready .weights t) (λ f. never e (v .ready .unguessed f q))
 
     -- A test before a turn ends the half here.
-    ends : Running l live turns left → (w : Word) → before (rowChecks c) n rule budget limit st ≡ some w → EndedAs n c l (record { word = w; turns = turns; live = live }) whole
+    ends : Running l live weighed turns left → (w : Word) → before (rowChecks c) n rule budget limit st ≡ some w → EndedAs n c l (record { word = w; turns = turns; live = live }) whole
     unfolding runFrom
     ends v w e =
         subst (EndedAs n c l (record { word = w; turns = turns; live = live }))
         (sym (run-ends (rowChecks c) n rule budget limit (limit - turns) st w e) ∙ v .same)
-        (record { word = refl; turns = refl; live = refl; marks = refl; forms = λ i. refl; kept = λ i. v .ready .kept })
+        (record { word = refl; turns = refl; live = refl; marks = refl; forms = λ i. refl; kept = λ i. v .ready .kept; weights = λ i. weights-at v })
 
     pub goes-finished : (r : Ended) → r ≡ record { word = finished live; turns = turns; live = live } → left ≡ 0 → RunEnds n c budget limit begun old l r
     goes-finished r i e =
@@ -123,7 +113,7 @@ module _ (n : ℕ) (c : RowLists) (budget limit : ℕ) (old : Working) (begun : 
         }
 
     module _ (more : 0 < left) where
-      open-now : Running l live turns left → noneOpen (rowChecks c) n rule st ≡ false
+      open-now : Running l live weighed turns left → noneOpen (rowChecks c) n rule st ≡ false
       open-now v = some-open n left (l .marks) (v .count) more
 
       pub goes-stopped : turns ≡ limit → RunEnds n c budget limit begun old l (record { word = Stopped; turns = turns; live = live })
@@ -134,8 +124,8 @@ module _ (n : ℕ) (c : RowLists) (budget limit : ℕ) (old : Working) (begun : 
                 let v = g .so good ready few in ends v Stopped (rw (open-now v, subst (λ (k : ℕ). eqb turns k ≡ true) e (eq-eqb turns)));
           }
 
-      module _ (early : turns ≡ limit → ⊥) (l′ : Working) (m : Move) (moved : Moved n c budget live l l′ m) where
-        moves : GoodRows n c → Running l live turns left → (m′ : Move) → m ≡ m′ → MovedBy n c budget live l l′ m′
+      module _ (early : turns ≡ limit → ⊥) (l′ : Working) (m : Move) (moved : Moved n c budget live weighed l l′ m) where
+        moves : GoodRows n c → Running l live weighed turns left → (m′ : Move) → m ≡ m′ → MovedBy n c budget live l l′ m′
         moves good v m′ e = subst (MovedBy n c budget live l l′) e (moved .moves good (v .ready) (open-now v) (v .few))
 
         pub goes-spent : m ≡ Spent → RunEnds n c budget limit begun old l′ (record { word = Word.Spent; turns = turns; live = live })
@@ -149,13 +139,13 @@ module _ (n : ℕ) (c : RowLists) (budget limit : ℕ) (old : Working) (begun : 
                   (ends v Word.Spent (rw (open-now v, eqb-differ turns limit early, z .1)));
             }
 
-        module _ (t : Taken) (is-made : m ≡ Made t) where
+        module _ (t : Taken) (keeps : Bool) (is-made : m ≡ Made t keeps) where
           stays : Stays n old l′
           stays = stays-on n old l l′ (g .stays) (moved .stays)
 
-          module _ (good : GoodRows n c) (v : Running l live turns left) where
-            z : (spent? n c budget live (l .marks) ≡ false) × Turns n c live (turnBy n c (l .work)) l l′ t
-            z = moves good v (Made t) is-made
+          module _ (good : GoodRows n c) (v : Running l live weighed turns left) where
+            z : (spent? n c budget live (l .marks) ≡ false) × Turns n c live keeps (turnBy n c) l l′ t
+            z = moves good v (Made t keeps) is-made
 
             unsaid : Unsaid (rowChecks c) n rule budget limit st
             unsaid = record { some-open = open-now v; room = eqb-differ turns limit early; free = z .0 }
@@ -168,7 +158,7 @@ module _ (n : ℕ) (c : RowLists) (budget limit : ℕ) (old : Working) (begun : 
 
             comes : StageAs n l′ (suc turns) t (turn (rowChecks c) n rule st)
             unfolding turnBy
-            comes = subst (λ (d : ℕ → ℕ). StageAs n l′ (suc turns) t (turn (rowChecks c) n (most d n) st)) (fun-ext (v .degrees)) (z .1 .comes turns)
+            comes = z .1 .comes turns
 
             failed-end : t ≡ Failed → EndedAs n c l′ (record { word = None; turns = turns + 1; live = 0 }) whole
             failed-end e = look (turn (rowChecks c) n rule st) refl comes
@@ -178,19 +168,19 @@ module _ (n : ℕ) (c : RowLists) (budget limit : ℕ) (old : Working) (begun : 
                     subst (EndedAs n c l′ (record { word = None; turns = turns + 1; live = 0 }))
                     (sym (run-failed (rowChecks c) n rule budget limit (limit - turns) st′)
                     ∙ ap (run (rowChecks c) n rule budget limit (limit - turns)) (sym i) ∙ goes)
-                    (record { word = refl; turns = add-one turns ∙ w .2; live = sym (w .3); marks = w .1; forms = λ j. never refl j; kept = λ j. never refl j })
+                    (record { word = refl; turns = add-one turns ∙ w .2; live = sym (w .3); marks = w .1; forms = λ j. never refl j; kept = λ j. never refl j; weights = λ j. never refl j })
                 look (on st′) i w = let u : _≡_ {A = Bool} true false = cc in never refl u
 
-            running-on : turns ≤ limit → (now : ℕ) → t ≡ Live now → Running l′ now (turns + 1) (left - 1)
+            running-on : turns ≤ limit → (now : ℕ) → t ≡ Live now → Running l′ now keeps (turns + 1) (left - 1)
             unfolding runFrom
             running-on in-limit now e = look (turn (rowChecks c) n rule st) refl comes
               where
-                look : (s : Stage) → turn (rowChecks c) n rule st ≡ s → StageAs n l′ (suc turns) t s → Running l′ now (turns + 1) (left - 1)
+                look : (s : Stage) → turn (rowChecks c) n rule st ≡ s → StageAs n l′ (suc turns) t s → Running l′ now keeps (turns + 1) (left - 1)
                 look (failed st′) i w = let u : _≡_ {A = Bool} true false = cc in never refl u
                 look (on st′) i w =
                     let e′ : st′ .forms .live ≡ now = cc in
                     let here : stateOf n (l′ .marks) (l′ .forms) now (turns + 1) ≡ st′ = ap₂ (stateOf n (l′ .marks) (l′ .forms)) (sym e′) (add-one turns) ∙ w .1 in
-                    let opened = subst (OpenAt n (turns + left)) i (open-turn (rowChecks c) n rule (most-rule (degreeOf (old .work)) n) (turns + left) st (ap (turns +_) (sym (v .count)), open-below n (l .marks))) in
+                    let opened = subst (OpenAt n (turns + left)) i (open-turn (rowChecks c) n rule (best-rule (fewer (rowChecks c)) n) (turns + left) st (ap (turns +_) (sym (v .count)), open-below n (l .marks))) in
                     let marks = ap (λ (s : State). marked n (s .mark) 4) here in
                     let made = ap (λ (s : State). s .turns) here in
                     record {
@@ -198,7 +188,6 @@ module _ (n : ℕ) (c : RowLists) (budget limit : ℕ) (old : Working) (begun : 
                       count = counted (st′ .turns) (marked n (st′ .mark) 4) (marked n (view n (l′ .marks)) 4) (opened .0) made marks;
                       ready = z .1 .ready now e;
                       few = subst (λ (k : ℕ). k ≤ budget) e′ (subst (FewAt budget) i (few-turn (rowChecks c) n rule budget limit st (v .few) unsaid));
-                      degrees = λ q. z .1 .degrees q ∙ v .degrees q;
                     }
                   where
                     steps : turns ≤ limit → suc (limit - (turns + 1)) ≡ limit - turns
@@ -210,7 +199,7 @@ module _ (n : ℕ) (c : RowLists) (budget limit : ℕ) (old : Working) (begun : 
           pub goes-failed : t ≡ Failed → RunEnds n c budget limit begun old l′ (record { word = None; turns = turns + 1; live = 0 })
           goes-failed e = record { stays = stays; ends = λ good ready few. failed-end good (g .so good ready few) e }
 
-          pub goes-on : (now : ℕ) → t ≡ Live now → Goes l′ now (turns + 1) (left - 1)
+          pub goes-on : (now : ℕ) → t ≡ Live now → Goes l′ now keeps (turns + 1) (left - 1)
           goes-on now e =
               record {
                 stays = stays;

@@ -1,7 +1,7 @@
 -- What the turns of a half promise, from the marks of its start.
 --   stageIn     the stage that a half starts in, of its marks
---   Begins      what is kept of the rows is right over the marks
---   endOf       how the half ends from there, by the numbers of rows on each qubit that the work list has
+--   Begins      what is kept of the rows is right over the marks, and no qubit is guessed
+--   endOf       how the half ends from there
 --   TurnedHalf  the turns: how the half ended
 --   reportBy    the report of a half, counted from its marks
 --   Ran         the report and the lists are those of an end
@@ -15,14 +15,15 @@ use lib.Dec.{leb}
 use lib.ListN.{length}
 use Rattle.scans.specs.Rows.{RowLists, rowChecks, GoodRows}
 use Rattle.kept.specs.Kept.{Kept, RowsOn}
+use Rattle.guessing.specs.Guessing.{Weighed}
 use Rattle.machine.specs.declared.HalfReport.{HalfReport}
-use Rattle.machine.specs.Machine.{Stage, End, isOpen, closed?, takeUpAll, blank, stage, run}
+use Rattle.machine.specs.Machine.{Stage, End, isOpen, closed?, takeUpAll, blank, stage, freest, run}
 use Rattle.machine.specs.Report.{marked, none?, report}
 use Rattle.machine.specs.Lists.{view, formsOf}
 use Rattle.turns.specs.declared.RunAnswer.{RunAnswer}
 use Rattle.turns.specs.declared.RunAnswer.the-variants.{Refused, Over}
 use Rattle.turns.specs.declared.Ended.{Ended}
-use Rattle.turns.specs.Turns.{Working, Stays, mostBy, EndedAs}
+use Rattle.turns.specs.Turns.{Working, Stays, isGuessed, EndedAs}
 
 abbrev pub stageIn : ℕ → RowLists → List ℕ → Stage
 stageIn n c marks = stage (view n marks) 0 (takeUpAll (closed? (isOpen (view n marks))) (rowChecks c) blank)
@@ -31,9 +32,10 @@ pub record Begins (n : ℕ) (c : RowLists) (l : Working) : Type 0 where
   pub good : GoodRows n c
   pub kept : Kept (isOpen (view n (l .marks))) c (l .work)
   pub on : RowsOn (isOpen (view n (l .marks))) c (l .work)
+  pub unguessed : (q : ℕ) → isGuessed n (l .marks) q ≡ false
 
 abbrev pub endOf : ℕ → RowLists → ℕ → ℕ → Working → End
-endOf n c budget limit l = run (rowChecks c) n (mostBy n (l .work)) budget limit (suc limit) (stageIn n c (l .marks))
+endOf n c budget limit l = run (rowChecks c) n (freest (rowChecks c) n) budget limit (suc limit) (stageIn n c (l .marks))
 
 pub record TurnedHalf (n : ℕ) (c : RowLists) (budget limit : ℕ) (old new : Working) (r : Ended) : Type 0 where
   pub stays : Stays n old new
@@ -52,12 +54,14 @@ reportBy n e marks = record {
 ----------------------------------------------------------------------
 -- The promise
 
--- Marks and forms are those of the end; after none, the forms are not told. At any end but none, what is kept of the rows is a fresh count over the marks.
+-- Marks and forms are those of the end; after none, the forms are not told. At any end but none, what is kept of the rows is a fresh count over the marks, and so
+-- are the weights where a qubit was guessed.
 pub record Ran (n : ℕ) (c : RowLists) (new : Working) (r : HalfReport) (e : End) : Type 0 where
   pub report : r ≡ report n e
   pub marks : view n (new .marks) ≡ e .state .mark
   pub forms : none? (e .word) ≡ false → formsOf n (new .forms) ≡ e .state .forms .form
   pub kept : none? (e .word) ≡ false → Kept (isOpen (view n (new .marks))) c (new .work)
+  pub weights : none? (e .word) ≡ false → (q : ℕ) → isGuessed n (new .marks) q ≡ true → Weighed (isOpen (view n (new .marks))) c (new .work)
 
 pub record RanHalf (n : ℕ) (c : RowLists) (budget limit : ℕ) (old new : Working) (r : HalfReport) : Type 0 where
   pub stays : Stays n old new

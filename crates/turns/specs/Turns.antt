@@ -1,14 +1,15 @@
 -- What the functions of a turn do to the lists.
 --   Working     the lists of a half at work: marks, forms, and what is kept of its rows
---   Ready       the forms have no bit above the live guesses, and what is kept of the rows is so
+--   Ready       the forms have no bit above the live guesses, and what is kept of the rows is so; of the weights, from the first guess on
 --   StageAs     the lists and the answer are a stage of the machine
 --   Turns       of lists that are ready, the stage that a turn leads to, with lists that are ready again
 --   Turned      the same, and elements past n as they were, whatever the lists hold
---   Moved       a turn, or that the budget is spent
+--   WeighedOnce the weights counted, unless they are kept
+--   Guessed     a guess; Moved: a turn, or that the budget is spent
 --   EndedAs     the lists and the answer are the end of a half
 use mathlib.Core.Path.{_≡_}
 use mathlib.Core.Bool.{Bool, true, false, not, _&&_}
-use mathlib.Core.Option.{Option}
+use mathlib.Core.Option.{none}
 use mathlib.Core.List.{List}
 use Prim.Native.Nat.{ℕ, suc, _≤_, _<_}
 use lib.Dec.{eqb}
@@ -23,11 +24,11 @@ use Rattle.kept.specs.Kept.{Kept, RowsOn}
 use Rattle.turns.specs.declared.Move.{Move}
 use Rattle.turns.specs.declared.Move.the-variants.{Spent, Made}
 use Rattle.turns.specs.declared.Ended.{Ended}
-use Rattle.machine.specs.Machine.{State, Stage, on, failed, End, put, isOpen, dangling, some?, most, settle, peel, guess, turn, run}
+use Rattle.machine.specs.Machine.{State, Stage, on, failed, End, put, isOpen, dangling, some?, freest, settle, peel, guess, turn, run}
 use Rattle.machine.specs.Report.{none?}
 use Rattle.machine.specs.Lists.{view, formsOf}
 use Rattle.forms.specs.Forms.{Topped}
-use Rattle.guessing.specs.Guessing.{degreeOf}
+use Rattle.guessing.specs.Guessing.{Weighed, rowsIn}
 use Rattle.turns.specs.Lists.{stateOf}
 
 pub record Working : Type 0 where
@@ -43,10 +44,16 @@ pub record Stays (n : ℕ) (old new : Working) : Type 0 where
   pub marks-rest : (q : ℕ) → n ≤ q → getD (new .marks) q 0 ≡ getD (old .marks) q 0
   pub forms-rest : (q : ℕ) → n ≤ q → getD (new .forms) q 0 ≡ getD (old .forms) q 0
 
-pub record Ready (n : ℕ) (c : RowLists) (live : ℕ) (w : Working) : Type 0 where
+abbrev pub isGuessed : ℕ → List ℕ → ℕ → Bool
+isGuessed n marks q = eqb (view n marks q) 3
+
+-- The weights are kept if `weighed`; until then no qubit is guessed.
+pub record Ready (n : ℕ) (c : RowLists) (live : ℕ) (weighed : Bool) (w : Working) : Type 0 where
   pub topped : Topped n live (w .forms)
   pub kept : Kept (isOpen (view n (w .marks))) c (w .work)
   pub on : RowsOn (isOpen (view n (w .marks))) c (w .work)
+  pub weights : weighed ≡ true → Weighed (isOpen (view n (w .marks))) c (w .work)
+  pub unguessed : weighed ≡ false → (q : ℕ) → isGuessed n (w .marks) q ≡ false
 
 abbrev pub StageAs : ℕ → Working → ℕ → Taken → Stage → Type 0
 StageAs n l turns t (failed st) = (t ≡ Failed) × (view n (l .marks) ≡ st .mark) × (turns ≡ st .turns) × (st .forms .live ≡ 0)
@@ -57,14 +64,13 @@ StageAs n l turns t (on st) =
 -- A qubit settled
 
 -- However many turns were made before.
-pub record Turns (n : ℕ) (c : RowLists) (live : ℕ) (next : State → Stage) (old new : Working) (t : Taken) : Type 0 where
+pub record Turns (n : ℕ) (c : RowLists) (live : ℕ) (weighed : Bool) (next : State → Stage) (old new : Working) (t : Taken) : Type 0 where
   pub comes : (turns : ℕ) → StageAs n new (suc turns) t (next (stateOf n (old .marks) (old .forms) live turns))
-  pub ready : (k : ℕ) → t ≡ Live k → Ready n c k new
-  pub degrees : (q : ℕ) → degreeOf (new .work) q ≡ degreeOf (old .work) q
+  pub ready : (k : ℕ) → t ≡ Live k → Ready n c k weighed new
 
-pub record Turned (n : ℕ) (c : RowLists) (live : ℕ) (next : State → Stage) (old new : Working) (t : Taken) : Type 0 where
+pub record Turned (n : ℕ) (c : RowLists) (live : ℕ) (weighed : Bool) (next : State → Stage) (old new : Working) (t : Taken) : Type 0 where
   pub stays : Stays n old new
-  pub turns : GoodRows n c → Ready n c live old → Turns n c live next old new t
+  pub turns : GoodRows n c → Ready n c live weighed old → Turns n c live weighed next old new t
 
 -- The word has no bit above the live guesses.
 abbrev pub ToppedWord : ℕ → ℕ → Type 0
@@ -74,10 +80,11 @@ ToppedWord live word = (k : ℕ) → live < k → bit word k ≡ false
 unfoldable pub settleBy : ℕ → RowLists → ℕ → ℕ → ℕ → ℕ → State → Stage
 settleBy n c p m word live st = settle (rowChecks c) st p m (record { form = put p (bit word) (st .forms .form); live = live })
 
--- So many guesses were live before, and are now.
-pub record Settled (n : ℕ) (c : RowLists) (p m word live : ℕ) (old new : Working) (t : Taken) : Type 0 where
+-- So many guesses were live before, and are now. A guess needs the weights.
+pub record Settled (n : ℕ) (c : RowLists) (p m word live : ℕ) (weighed : Bool) (old new : Working) (t : Taken) : Type 0 where
   pub stays : Stays n old new
-  pub turns : GoodRows n c → Ready n c live old → ToppedWord live word → (before : ℕ) → Turns n c before (settleBy n c p m word live) old new t
+  pub turns : GoodRows n c → Ready n c live weighed old → (weighed ≡ false → eqb m 3 ≡ false) → ToppedWord live word
+      → (before : ℕ) → Turns n c before weighed (settleBy n c p m word live) old new t
 
 -- Row r gives its open qubit p its side.
 unfoldable pub peelBy : ℕ → RowLists → ℕ → ℕ → State → Stage
@@ -89,12 +96,8 @@ guessBy n c p st = guess (rowChecks c) st p
 ----------------------------------------------------------------------
 -- A turn
 
--- The rule that a list of counts gives.
-abbrev pub mostBy : ℕ → List ℕ → Qubits → Option ℕ
-mostBy n work = most (degreeOf work) n
-
-unfoldable pub turnBy : ℕ → RowLists → List ℕ → State → Stage
-turnBy n c work = turn (rowChecks c) n (mostBy n work)
+unfoldable pub turnBy : ℕ → RowLists → State → Stage
+turnBy n c = turn (rowChecks c) n (freest (rowChecks c) n)
 
 -- No row dangles, and the live guesses equal the budget.
 abbrev pub spent? : ℕ → RowLists → ℕ → ℕ → List ℕ → Bool
@@ -103,18 +106,35 @@ spent? n c budget live marks = not (some? (dangling (isOpen (view n marks)) (row
 abbrev pub someOpen : ℕ → List ℕ → Type 0
 someOpen n marks = below n (λ q. not (isOpen (view n marks) q)) ≡ false
 
+-- The weights are counted, unless they are kept.
+pub record WeighedOnce (n : ℕ) (flat ends : List ℕ) (first count : ℕ) (weighed : Bool) (work work′ : List ℕ) : Type 0 where
+  pub long : length work′ ≡ length work
+  pub below : (k : ℕ) → k < 9216 → getD work′ k 0 ≡ getD work k 0
+  pub weights : (lit : List ℕ) → let c = rowsIn flat ends first count lit in GoodRows n c
+      → (o : Qubits) → ((q : ℕ) → o q ≡ true → q < n) → Kept o c work → (weighed ≡ true → Weighed o c work) → Weighed o c work′
+
+-- No row dangles, and the budget is not spent. With the turn made it is told whether the weights are kept now.
+abbrev pub GuessedBy : ℕ → RowLists → ℕ → Working → Working → Move → Type 0
+GuessedBy n c live old new Spent = ⊥
+GuessedBy n c live old new (Made t weighed) = Turns n c live weighed (turnBy n c) old new t
+
+pub record Guessed (n : ℕ) (c : RowLists) (live : ℕ) (weighed : Bool) (old new : Working) (m : Move) : Type 0 where
+  pub stays : Stays n old new
+  pub guesses : GoodRows n c → Ready n c live weighed old → someOpen n (old .marks) → dangling (isOpen (view n (old .marks))) (rowChecks c) ≡ none
+      → GuessedBy n c live old new m
+
 abbrev pub MovedBy : ℕ → RowLists → ℕ → ℕ → Working → Working → Move → Type 0
 MovedBy n c budget live old new Spent = (new ≡ old) × (spent? n c budget live (old .marks) ≡ true)
-MovedBy n c budget live old new (Made t) = (spent? n c budget live (old .marks) ≡ false) × Turns n c live (turnBy n c (old .work)) old new t
+MovedBy n c budget live old new (Made t weighed) = (spent? n c budget live (old .marks) ≡ false) × Turns n c live weighed (turnBy n c) old new t
 
-pub record Moved (n : ℕ) (c : RowLists) (budget live : ℕ) (old new : Working) (m : Move) : Type 0 where
+pub record Moved (n : ℕ) (c : RowLists) (budget live : ℕ) (weighed : Bool) (old new : Working) (m : Move) : Type 0 where
   pub stays : Stays n old new
-  pub moves : GoodRows n c → Ready n c live old → someOpen n (old .marks) → live ≤ budget → MovedBy n c budget live old new m
+  pub moves : GoodRows n c → Ready n c live weighed old → someOpen n (old .marks) → live ≤ budget → MovedBy n c budget live old new m
 
 ----------------------------------------------------------------------
 -- The end
 
--- At any end but none, what is kept of the rows is a fresh count over the marks.
+-- At any end but none, what is kept of the rows is a fresh count over the marks, and so are the weights where a qubit was guessed.
 pub record EndedAs (n : ℕ) (c : RowLists) (new : Working) (r : Ended) (e : End) : Type 0 where
   pub word : r .word ≡ e .word
   pub turns : r .turns ≡ e .state .turns
@@ -122,12 +142,13 @@ pub record EndedAs (n : ℕ) (c : RowLists) (new : Working) (r : Ended) (e : End
   pub marks : view n (new .marks) ≡ e .state .mark
   pub forms : none? (e .word) ≡ false → formsOf n (new .forms) ≡ e .state .forms .form
   pub kept : none? (e .word) ≡ false → Kept (isOpen (view n (new .marks))) c (new .work)
+  pub weights : none? (e .word) ≡ false → (q : ℕ) → isGuessed n (new .marks) q ≡ true → Weighed (isOpen (view n (new .marks))) c (new .work)
 
 -- The half goes on from these lists, so many turns made, at most m more.
-unfoldable pub runFrom : ℕ → RowLists → List ℕ → ℕ → ℕ → ℕ → Working → ℕ → ℕ → End
-runFrom n c degrees budget limit m l live turns =
-    run (rowChecks c) n (mostBy n degrees) budget limit m (on (stateOf n (l .marks) (l .forms) live turns))
+unfoldable pub runFrom : ℕ → RowLists → ℕ → ℕ → ℕ → Working → ℕ → ℕ → End
+runFrom n c budget limit m l live turns =
+    run (rowChecks c) n (freest (rowChecks c) n) budget limit m (on (stateOf n (l .marks) (l .forms) live turns))
 
 pub record RunEnds (n : ℕ) (c : RowLists) (budget limit live : ℕ) (old new : Working) (r : Ended) : Type 0 where
   pub stays : Stays n old new
-  pub ends : GoodRows n c → Ready n c live old → live ≤ budget → EndedAs n c new r (runFrom n c (old .work) budget limit (suc limit) old live 0)
+  pub ends : GoodRows n c → Ready n c live false old → live ≤ budget → EndedAs n c new r (runFrom n c budget limit (suc limit) old live 0)

@@ -17,10 +17,10 @@ pub enum RunAnswer {
     Over(HalfReport),
 }
 
-// A turn, or that the budget is spent.
+// A turn, with whether the weights are kept after it, or that the budget is spent.
 enum Move {
     Spent,
-    Made(Taken),
+    Made(Taken, bool),
 }
 
 // How a half ended: the word, the turns made and the live guesses.

@@ -8,7 +8,7 @@ ghost use Rattle.machine.specs.Machine.{isOpen};
 ghost use Rattle.machine.specs.Words;
 ghost use Rattle.machine.specs.Report.{marked};
 ghost use Rattle.machine.specs.Lists.{view};
-ghost use Rattle.turns.specs.Turns.{Turned, Settled, peelBy, guessBy, Moved, RunEnds};
+ghost use Rattle.turns.specs.Turns.{Turned, Settled, peelBy, guessBy, WeighedOnce, Guessed, Moved, RunEnds};
 use crate::Ended;
 use crate::Move;
 use code::Qubit;
@@ -18,7 +18,7 @@ use forms::Taken;
 use guessing::Choice;
 use machine::Word;
 
-// The open qubit p gets a mark and a form; then the rows that this turn closed are taken up.
+// The open qubit p gets a mark and a form; then the rows that this turn closed are taken up, and the weights follow, if they are kept.
 fn settle(
     n: usize,
     flat: &[u16],
@@ -29,18 +29,23 @@ fn settle(
     mark: u8,
     form: u64,
     live: u16,
+    weighed: bool,
     work: &mut [u64],
     marks: &mut [u8],
     forms: &mut [u64],
 ) -> Taken
     requires { ⌜ (n ≤ 1024) × (n ≤ length (now marks)) × (n ≤ length (now forms)) × (10240 ≤ length (now work)) × (rows .count ≤ 512) × (rows .first .0 + rows .count ≤ length (now lit)) × (rows .first .0 + rows .count ≤ 1024) ⌝ }
     requires { ⌜ (p .0 < n) × (isOpen (view n (now marks)) (p .0) ≡ true) × (eqb mark 4 ≡ false) ⌝ }
-    ensures { λ t. ⌜ Settled n (record { flat = now (flat .entry); ends = now (ends .entry); lit = now (lit .entry); first = rows .first .0; count = rows .count }) (p .0) mark form live (record { marks = now (marks .entry); forms = now (forms .entry); work = now (work .entry) }) (record { marks = now (marks .exit); forms = now (forms .exit); work = now (work .exit) }) t ⌝ }
+    ensures { λ t. ⌜ Settled n (record { flat = now (flat .entry); ends = now (ends .entry); lit = now (lit .entry); first = rows .first .0; count = rows .count }) (p .0) mark form live weighed (record { marks = now (marks .entry); forms = now (forms .entry); work = now (work .entry) }) (record { marks = now (marks .exit); forms = now (forms .exit); work = now (work .exit) }) t ⌝ }
 {
     let at = p.0 as usize;
     marks[at] = mark;
     forms[at] = form;
-    closing::close_rows(n, flat, ends, lit, rows, p, live, work, forms)
+    let taken = closing::close_rows(n, flat, ends, lit, rows, p, live, work, forms);
+    if weighed {
+        guessing::renew(n, flat, ends, rows, p, work);
+    }
+    taken
 }
 
 // The dangling row r gives its open qubit p the row's side.
@@ -53,13 +58,14 @@ fn peel(
     r: Row,
     p: Qubit,
     live: u16,
+    weighed: bool,
     work: &mut [u64],
     marks: &mut [u8],
     forms: &mut [u64],
 ) -> Taken
     requires { ⌜ (n ≤ 1024) × (n ≤ length (now marks)) × (n ≤ length (now forms)) × (10240 ≤ length (now work)) × (rows .count ≤ 512) × (rows .first .0 + rows .count ≤ length (now lit)) × (rows .first .0 + rows .count ≤ 1024) ⌝ }
     requires { ⌜ (p .0 < n) × (isOpen (view n (now marks)) (p .0) ≡ true) × (r .0 < length (now lit)) ⌝ }
-    ensures { λ t. ⌜ Turned n (record { flat = now (flat .entry); ends = now (ends .entry); lit = now (lit .entry); first = rows .first .0; count = rows .count }) live (peelBy n (record { flat = now (flat .entry); ends = now (ends .entry); lit = now (lit .entry); first = rows .first .0; count = rows .count }) (p .0) (r .0)) (record { marks = now (marks .entry); forms = now (forms .entry); work = now (work .entry) }) (record { marks = now (marks .exit); forms = now (forms .exit); work = now (work .exit) }) t ⌝ }
+    ensures { λ t. ⌜ Turned n (record { flat = now (flat .entry); ends = now (ends .entry); lit = now (lit .entry); first = rows .first .0; count = rows .count }) live weighed (peelBy n (record { flat = now (flat .entry); ends = now (ends .entry); lit = now (lit .entry); first = rows .first .0; count = rows .count }) (p .0) (r .0)) (record { marks = now (marks .entry); forms = now (forms .entry); work = now (work .entry) }) (record { marks = now (marks .exit); forms = now (forms .exit); work = now (work .exit) }) t ⌝ }
 {
     let row = code::row_at(flat, ends, r);
     let at = r.0 as usize;
@@ -74,13 +80,14 @@ fn peel(
         2,
         side,
         live,
+        weighed,
         work,
         marks,
         forms,
     )
 }
 
-// The open qubit p becomes a new live guess.
+// The open qubit p becomes a new live guess. The weights are kept.
 fn guess(
     n: usize,
     flat: &[u16],
@@ -95,7 +102,7 @@ fn guess(
 ) -> Taken
     requires { ⌜ (n ≤ 1024) × (n ≤ length (now marks)) × (n ≤ length (now forms)) × (10240 ≤ length (now work)) × (rows .count ≤ 512) × (rows .first .0 + rows .count ≤ length (now lit)) × (rows .first .0 + rows .count ≤ 1024) ⌝ }
     requires { ⌜ (p .0 < n) × (isOpen (view n (now marks)) (p .0) ≡ true) × (live < 63) ⌝ }
-    ensures { λ t. ⌜ Turned n (record { flat = now (flat .entry); ends = now (ends .entry); lit = now (lit .entry); first = rows .first .0; count = rows .count }) live (guessBy n (record { flat = now (flat .entry); ends = now (ends .entry); lit = now (lit .entry); first = rows .first .0; count = rows .count }) (p .0)) (record { marks = now (marks .entry); forms = now (forms .entry); work = now (work .entry) }) (record { marks = now (marks .exit); forms = now (forms .exit); work = now (work .exit) }) t ⌝ }
+    ensures { λ t. ⌜ Turned n (record { flat = now (flat .entry); ends = now (ends .entry); lit = now (lit .entry); first = rows .first .0; count = rows .count }) live true (guessBy n (record { flat = now (flat .entry); ends = now (ends .entry); lit = now (lit .entry); first = rows .first .0; count = rows .count }) (p .0)) (record { marks = now (marks .entry); forms = now (forms .entry); work = now (work .entry) }) (record { marks = now (marks .exit); forms = now (forms .exit); work = now (work .exit) }) t ⌝ }
 {
     let newest = live + 1;
     settle(
@@ -108,14 +115,51 @@ fn guess(
         3,
         1 << newest,
         newest,
+        true,
         work,
         marks,
         forms,
     )
 }
 
-// One turn: the lowest dangling row gives its open qubit the row's side; if no row dangles, the open qubit on most rows becomes a new live
-// guess, unless the budget is spent. That a dangling row has no open qubit is tested for altered lists alone.
+// The weights are counted, unless they are kept.
+fn weigh_once(n: usize, flat: &[u16], ends: &[u16], rows: Rows, weighed: bool, work: &mut [u64])
+    requires { ⌜ (n ≤ 1024) × (rows .count ≤ 512) × (rows .first .0 + rows .count ≤ 1024) × (10240 ≤ length (now work)) ⌝ }
+    ensures { λ _. ⌜ WeighedOnce n (now (flat .entry)) (now (ends .entry)) (rows .first .0) (rows .count) weighed (now (work .entry)) (now (work .exit)) ⌝ }
+{
+    if !weighed {
+        guessing::weigh(n, flat, ends, rows, work);
+    }
+}
+
+// The open qubit that frees most rows becomes a new live guess. At the first guess of a half the weights are counted.
+fn guess_freest(
+    n: u16,
+    flat: &[u16],
+    ends: &[u16],
+    lit: &[u8],
+    rows: Rows,
+    live: u16,
+    weighed: bool,
+    work: &mut [u64],
+    marks: &mut [u8],
+    forms: &mut [u64],
+) -> Move
+    requires { ⌜ (n ≤ 1024) × (n ≤ length (now marks)) × (n ≤ length (now forms)) × (10240 ≤ length (now work)) × (rows .count ≤ 512) × (rows .first .0 + rows .count ≤ length (now lit)) × (rows .first .0 + rows .count ≤ 1024) ⌝ }
+    requires { ⌜ live < 63 ⌝ }
+    ensures { λ m. ⌜ Guessed n (record { flat = now (flat .entry); ends = now (ends .entry); lit = now (lit .entry); first = rows .first .0; count = rows .count }) live weighed (record { marks = now (marks .entry); forms = now (forms .entry); work = now (work .entry) }) (record { marks = now (marks .exit); forms = now (forms .exit); work = now (work .exit) }) m ⌝ }
+{
+    let size = n as usize;
+    weigh_once(size, flat, ends, rows, weighed, work);
+    let Choice::Named(p) = guessing::most_open(n, marks, work) else {
+        return Move::Spent;
+    };
+    let taken = guess(size, flat, ends, lit, rows, p, live, work, marks, forms);
+    Move::Made(taken, true)
+}
+
+// One turn: the lowest dangling row gives its open qubit the row's side; if no row dangles, a qubit is guessed, unless the budget is spent. That a dangling row
+// has no open qubit is tested for altered lists alone.
 fn make_turn(
     n: u16,
     flat: &[u16],
@@ -124,46 +168,46 @@ fn make_turn(
     rows: Rows,
     budget: u16,
     live: u16,
+    weighed: bool,
     work: &mut [u64],
     marks: &mut [u8],
     forms: &mut [u64],
 ) -> Move
     requires { ⌜ (n ≤ 1024) × (n ≤ length (now marks)) × (n ≤ length (now forms)) × (10240 ≤ length (now work)) × (rows .count ≤ 512) × (rows .first .0 + rows .count ≤ length (now lit)) × (rows .first .0 + rows .count ≤ 1024) ⌝ }
     requires { ⌜ budget ≤ 63 ⌝ }
-    ensures { λ m. ⌜ Moved n (record { flat = now (flat .entry); ends = now (ends .entry); lit = now (lit .entry); first = rows .first .0; count = rows .count }) budget live (record { marks = now (marks .entry); forms = now (forms .entry); work = now (work .entry) }) (record { marks = now (marks .exit); forms = now (forms .exit); work = now (work .exit) }) m ⌝ }
+    ensures { λ m. ⌜ Moved n (record { flat = now (flat .entry); ends = now (ends .entry); lit = now (lit .entry); first = rows .first .0; count = rows .count }) budget live weighed (record { marks = now (marks .entry); forms = now (forms .entry); work = now (work .entry) }) (record { marks = now (marks .exit); forms = now (forms .exit); work = now (work .exit) }) m ⌝ }
 {
-    let size = n as usize;
     let i = kept::lowest(rows.count, work);
-    if i.0 < rows.count {
-        let first = rows.first;
-        let r = first.0 + i.0;
-        let row = code::row_at(flat, ends, Row(r));
-        let at = scans::first_open(size, row, marks);
-        if row.len() <= at {
+    if rows.count <= i.0 {
+        if budget <= live {
             return Move::Spent;
         }
-        let p = row[at];
-        return Move::Made(peel(
-            size,
-            flat,
-            ends,
-            lit,
-            rows,
-            Row(r),
-            Qubit(p),
-            live,
-            work,
-            marks,
-            forms,
-        ));
+        return guess_freest(n, flat, ends, lit, rows, live, weighed, work, marks, forms);
     }
-    if budget <= live {
+    let size = n as usize;
+    let first = rows.first;
+    let r = Row(first.0 + i.0);
+    let row = code::row_at(flat, ends, r);
+    let at = scans::first_open(size, row, marks);
+    if row.len() <= at {
         return Move::Spent;
     }
-    let Choice::Named(p) = guessing::most_open(n, marks, work) else {
-        return Move::Spent;
-    };
-    Move::Made(guess(size, flat, ends, lit, rows, p, live, work, marks, forms))
+    let p = Qubit(row[at]);
+    let taken = peel(
+        size,
+        flat,
+        ends,
+        lit,
+        rows,
+        r,
+        p,
+        live,
+        weighed,
+        work,
+        marks,
+        forms,
+    );
+    Move::Made(taken, weighed)
 }
 
 // A finished half is certain with no live guess, unsure otherwise.
@@ -203,6 +247,7 @@ pub fn run(
     ensures { λ r. ⌜ RunEnds n (record { flat = now (flat .entry); ends = now (ends .entry); lit = now (lit .entry); first = rows .first .0; count = rows .count }) budget limit 0 (record { marks = now (marks .entry); forms = now (forms .entry); work = now (work .entry) }) (record { marks = now (marks .exit); forms = now (forms .exit); work = now (work .exit) }) r ⌝ }
 {
     let mut live: u16 = 0;
+    let mut weighed = false;
     let mut turns: u16 = 0;
     let mut left = unsettled;
     while 0 < left {
@@ -213,8 +258,20 @@ pub fn run(
                 live: live,
             };
         }
-        let made = make_turn(n, flat, ends, lit, rows, budget, live, work, marks, forms);
-        let Move::Made(taken) = made else {
+        let made = make_turn(
+            n,
+            flat,
+            ends,
+            lit,
+            rows,
+            budget,
+            live,
+            weighed,
+            work,
+            marks,
+            forms,
+        );
+        let Move::Made(taken, keeps) = made else {
             return Ended {
                 word: Word::Spent,
                 turns: turns,
@@ -231,6 +288,7 @@ pub fn run(
             };
         };
         live = now;
+        weighed = keeps;
     }
     finished(turns, live)
 }

@@ -1,6 +1,6 @@
 //! A half, turn by turn: document 01's steps, taken one at a time.
 
-use crate::half::{mark, Asked, Counts, Half, Report, Word};
+use crate::half::{mark, Asked, Counts, Half, Report, Row, Word};
 use crate::wrong::{Part, Wrong};
 use std::cmp::Reverse;
 
@@ -24,25 +24,24 @@ struct Machine<'a> {
     peeling: Vec<usize>,
     /// The rows that are taken up when they are closed, ascending.
     closing: Vec<usize>,
-    /// On how many rows each qubit is.
-    degree: Vec<usize>,
+    /// The rows that count for the guess.
+    counted: Vec<&'a Row>,
+    /// How many open qubits each of them had at the start.
+    first: Vec<usize>,
 }
 
 impl<'a> Machine<'a> {
     fn new(half: &'a Half<'a>, wrong: Wrong) -> Machine<'a> {
         let mut marks = vec![mark::NOT_LOST; half.n];
         half.lost.ones().into_iter().for_each(|qubit| marks[qubit] = mark::OPEN);
-        let mut degree = vec![0; half.n];
-        for &qubit in wrong.counted(half).into_iter().flatten() {
-            degree[qubit] += 1;
-        }
+        let counted = wrong.counted(half);
         let mut peeling = wrong.rows(half, Part::Dangle);
         if wrong == Wrong::PeelHighest {
             peeling.reverse();
         }
         let closing = wrong.rows(half, Part::Close);
         let forms = vec![0; half.n];
-        Machine { half, wrong, marks, forms, live: 0, peeling, closing, degree }
+        Machine { half, wrong, marks, forms, live: 0, peeling, closing, counted, first: Vec::new() }
     }
 
     fn run(&mut self, asked: Asked) -> Word {
@@ -63,6 +62,7 @@ impl<'a> Machine<'a> {
         for qubit in self.wrong.fixed(self.half) {
             self.marks[qubit] = mark::FIXED;
         }
+        self.first = self.counted.iter().map(|row| self.open_in(row)).collect();
         let touched = |row: usize| self.half.rows[row].iter().any(|&q| self.half.lost.get(q));
         let seen = |row: usize| self.wrong != Wrong::UntouchedIgnored || touched(row);
         let rows = self.closing.iter().copied();
@@ -72,6 +72,10 @@ impl<'a> Machine<'a> {
     fn open(&self, row: usize) -> impl Iterator<Item = usize> + '_ {
         let qubits = self.half.rows[row].iter().copied();
         qubits.filter(|&qubit| self.marks[qubit] == mark::OPEN)
+    }
+
+    fn open_in(&self, row: &[usize]) -> usize {
+        row.iter().filter(|&&qubit| self.marks[qubit] == mark::OPEN).count()
     }
 
     fn side(&self, row: usize) -> u64 {
@@ -167,12 +171,29 @@ impl<'a> Machine<'a> {
         rows.filter(|&row| self.open(row).next().is_none()).collect()
     }
 
-    /// The open qubit on most rows, the lowest of equals.
+    /// On how many rows that have exactly two open qubits each qubit is, and on how many rows.
+    fn weights(&self) -> Vec<(usize, usize)> {
+        let mut weights = vec![(0, 0); self.half.n];
+        for (row, &first) in self.counted.iter().zip(&self.first) {
+            let open = match self.wrong {
+                Wrong::PairsOfTheStart => first,
+                _ => self.open_in(row),
+            };
+            for &qubit in row.iter() {
+                weights[qubit].0 += usize::from(open == 2 && self.wrong != Wrong::GuessByRows);
+                weights[qubit].1 += usize::from(self.wrong != Wrong::GuessByPairs);
+            }
+        }
+        weights
+    }
+
+    /// The open qubit on most rows that have exactly two open qubits; equals are settled by most rows of the half, then by the lowest number.
     fn guess(&self) -> usize {
+        let weights = self.weights();
         let open = (0..self.half.n).filter(|&qubit| self.marks[qubit] == mark::OPEN);
         let best = match self.wrong {
-            Wrong::GuessHighest => open.max_by_key(|&qubit| (self.degree[qubit], qubit)),
-            _ => open.max_by_key(|&qubit| (self.degree[qubit], Reverse(qubit))),
+            Wrong::GuessHighest => open.max_by_key(|&qubit| (weights[qubit], qubit)),
+            _ => open.max_by_key(|&qubit| (weights[qubit], Reverse(qubit))),
         };
         best.expect("an open qubit")
     }

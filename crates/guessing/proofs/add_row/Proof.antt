@@ -1,87 +1,24 @@
--- `guessing::add_row` meets its contract: what is counted, and what is left of the row, is what it comes to. Assumes nothing.
-use borrow.Author.Needs.{needs}
-use mathlib.Core.Path.{refl}
-use mathlib.Core.Logic.{⊎-elim}
-use Prim.Native.Nat.{_-_, _≤_}
+-- `guessing::add_row` meets its contract. Assumes nothing.
 use native.Mathlib.Omega.{arith}
-use lib.ListN.{length, getD}
-use Rattle.guessing.proofs.Degrees.{Adding, adding-start, adding-room, adding-yes, adding-no, adding-end}
+use Rattle.guessing.proofs.Adding.{added-none, added-as}
+use borrow.Author.Needs.{needs}
 use Rattle.guessing.proofs.add_row.Statement.{statement}
 use Rattle.guessing.proofs.add_row.Tie as tie
 
-abbrev Inv-loop : tie.InvT-loop
-Inv-loop n row work₀ i₀ work i = (i ≤ length row) × Adding n row work₀ work i
+row-at-requires : tie.Need-row-at-requires
+row-at-requires c κs = search needs
 
-abbrev μ-loop : tie.MeasureT-loop
-μ-loop n row work₀ i₀ work i = length row - i
+add-requires : tie.Need-add-requires
+add-requires c κs = search needs
 
-loop-holds : tie.Need-loop-holds Inv-loop μ-loop
-loop-holds c = (search needs, adding-start _ _ _)
+same-length : tie.Need-same-length
+same-length c = search needs
 
-mul-q : tie.Need-mul-q Inv-loop μ-loop
-mul-q c = search needs
+returns : tie.Need-returns
+returns c = added-as _ _ _ _ _ _ (c .before .before .before .before .row-at .ensures) (c .before .before .add .ensures)
 
-shared-slice-read-q : tie.Need-shared-slice-read-q Inv-loop μ-loop
-shared-slice-read-q c = search needs
-
-cast-q : tie.Need-cast-q Inv-loop μ-loop
-cast-q c = omega (arith, c .shared-slice-known .given (c .before .before .loop .i))
-
-add-at : tie.Need-add-at Inv-loop μ-loop
-add-at c = search needs
-
-mul-work : tie.Need-mul-work Inv-loop μ-loop
-mul-work c = search needs
-
-slice-read-work : tie.Need-slice-read-work Inv-loop μ-loop
-slice-read-work c = search needs
-
-add-work : tie.Need-add-work Inv-loop μ-loop
-add-work c =
-    let at = c .before .before .before .before in
-    let q = getD (at .before .args .row .now) (at .loop .i) 0 in
-    omega (arith, at .before .pre .1 q (search needs), adding-room _ _ _ _ _ (at .loop .inv .1) q refl (search needs) (search needs))
-
-slice-write-work : tie.Need-slice-write-work Inv-loop μ-loop
-slice-write-work c = search needs
-
-add-i : tie.Need-add-i Inv-loop μ-loop
-add-i c = search needs
-
-loop-less : tie.Need-loop-less Inv-loop μ-loop
-loop-less c = search needs
-
-loop-again : tie.Need-loop-again Inv-loop μ-loop
-loop-again c =
-    let a = c .before .before .before .loop .inv .1 in (
-      search needs,
-      ⊎-elim (λ x. rw (x .2) (adding-yes _ _ _ _ _ a _ refl (search needs) (search needs) (search needs)))
-          (λ x. rw (x .1) (adding-no _ _ _ _ _ a _ refl (search needs) (search needs))) (c .if1 .came),
-    )
-
-same-length : tie.Need-same-length Inv-loop μ-loop
-same-length c = c .before .loop .inv .1 .long
-
-returns : tie.Need-returns Inv-loop μ-loop
-returns c = adding-end _ _ _ _ _ (c .before .loop .inv .1) (search needs)
+returns-2 : tie.Need-returns-2
+returns-2 c = added-none _ _ _ _ (omega (arith, c .if1 .left))
 
 pub add-row-spec : {M : Type 1} → statement M
-add-row-spec =
-    tie.close
-    (tie.spec
-    Inv-loop
-    μ-loop
-    loop-holds
-    mul-q
-    shared-slice-read-q
-    cast-q
-    add-at
-    mul-work
-    slice-read-work
-    add-work
-    slice-write-work
-    add-i
-    loop-less
-    loop-again
-    same-length
-    returns)
+add-row-spec = tie.close (tie.spec row-at-requires add-requires same-length returns returns-2)

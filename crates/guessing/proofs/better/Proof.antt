@@ -8,8 +8,8 @@ use borrow.Author.Needs.{needs}
 use Rattle.guessing.proofs.better.Statement.{statement}
 use Rattle.guessing.proofs.better.Tie as tie
 
-enum-known-best : tie.Need-enum-known-best
-enum-known-best c = search needs
+enum-known-named : tie.Need-enum-known-named
+enum-known-named c = search needs
 
 enum-told : tie.Need-enum-told
 enum-told c = search needs
@@ -36,7 +36,7 @@ mul-if1 c = search needs
 
 shared-slice-read-if1 : tie.Need-shared-slice-read-if1
 shared-slice-read-if1 c =
-    let below = subst (λ (x : Choice). NamedBelow x 1024) (c .before .before .before .before .best .given .1) (c .before .before .before .before .before .before .pre .1) in
+    let below = subst (λ (x : Choice). NamedBelow x 1024) (c .before .before .before .before .named .given .1) (c .before .before .before .before .before .before .pre .1) in
     omega (arith, below, c .before .before .before .before .before .before .pre .0)
 
 mul-if1-2 : tie.Need-mul-if1-2
@@ -48,18 +48,18 @@ shared-slice-read-if1-2 c = search needs
 returns-2 : tie.Need-returns-2
 returns-2 c =
     let args = c .before .before .before .before .before .before .before .before .args in
-    sym (ap (λ (x : Choice). betterOf (args .work .now) x (args .q)) (c .before .before .before .before .before .before .best .given .1) ∙ rw (lt-ltb _ _ (c .if1 .taken)))
+    sym (ap (λ (x : Choice). betterOf (args .work .now) x (args .q)) (c .before .before .before .before .before .before .named .given .1) ∙ rw (lt-ltb _ _ (c .if1 .taken)))
 
 returns-3 : tie.Need-returns-3
 returns-3 c =
     let args = c .before .before .before .before .before .before .before .before .args in
-    sym (ap (λ (x : Choice). betterOf (args .work .now) x (args .q)) (c .before .before .before .before .before .before .best .given .1) ∙ rw (le-ltb _ _ (c .if1 .left)))
+    sym (ap (λ (x : Choice). betterOf (args .work .now) x (args .q)) (c .before .before .before .before .before .before .named .given .1) ∙ rw (le-ltb _ _ (c .if1 .left)))
 
 pub better-spec : {M : Type 1} → statement M
 better-spec =
     tie.close
     (tie.spec
-    enum-known-best
+    enum-known-named
     enum-told
     returns
     cast-low

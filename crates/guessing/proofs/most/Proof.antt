@@ -4,20 +4,20 @@ use mathlib.Core.Path.{_≡_, refl, sym, ap, _∙_, subst}
 use mathlib.Core.Logic.{⊎-elim}
 use Prim.Native.Nat.{ℕ, _-_, _≤_}
 use native.Mathlib.Omega.{arith}
-use Rattle.machine.specs.Machine.{isOpen, most}
+use Rattle.machine.specs.Machine.{isOpen, best}
 use Rattle.machine.specs.Lists.{view}
 use Rattle.guessing.specs.declared.Choice.{Choice}
 use Rattle.guessing.specs.Guessing.{choiceOf}
-use Rattle.guessing.specs.Guessing.{degreeOf, betterOf, NamedBelow}
+use Rattle.guessing.specs.Guessing.{lighter, betterOf, NamedBelow}
 use Rattle.guessing.proofs.Choices.{named-below, below-more, choice-yes, choice-no}
 use Rattle.guessing.proofs.most.Statement.{statement}
 use Rattle.guessing.proofs.most.Tie as tie
 
 abbrev Inv-loop : tie.InvT-loop
-Inv-loop n marks work best₀ q₀ best q = (q ≤ n) × (best ≡ choiceOf (most (degreeOf work) q (isOpen (view n marks))))
+Inv-loop n marks work named₀ q₀ named q = (q ≤ n) × (named ≡ choiceOf (best (lighter work) q (isOpen (view n marks))))
 
 abbrev μ-loop : tie.MeasureT-loop
-μ-loop n marks work best₀ q₀ best q = n - q
+μ-loop n marks work named₀ q₀ named q = n - q
 
 loop-holds : tie.Need-loop-holds Inv-loop μ-loop
 loop-holds c = (search needs, refl)
@@ -35,7 +35,7 @@ better-requires c κs =
     let o = isOpen (view (args .n) (args .marks .now)) in (
       at .before .before .before .pre .2,
       subst (λ (x : Choice). NamedBelow x 1024) (sym (at .loop .inv .1))
-          (below-more (choiceOf (most (degreeOf (args .work .now)) (at .loop .q) o)) (at .loop .q) 1024 (omega (arith, at .loop .inv .0, at .before .before .before .pre .0)) (named-below (degreeOf (args .work .now)) (at .loop .q) o)),
+          (below-more (choiceOf (best (lighter (args .work .now)) (at .loop .q) o)) (at .loop .q) 1024 (omega (arith, at .loop .inv .0, at .before .before .before .pre .0)) (named-below (lighter (args .work .now)) (at .loop .q) o)),
       omega (arith, c .before .before .loop-test .taken, at .before .before .before .pre .0),
     )
 
@@ -60,7 +60,7 @@ returns : tie.Need-returns Inv-loop μ-loop
 returns c =
     let args = c .before .before .before .before .args in
     let done : c .before .loop .q ≡ args .n = omega arith in
-    c .before .loop .inv .1 ∙ ap (λ (k : ℕ). choiceOf (most (degreeOf (args .work .now)) k (isOpen (view (args .n) (args .marks .now))))) done
+    c .before .loop .inv .1 ∙ ap (λ (k : ℕ). choiceOf (best (lighter (args .work .now)) k (isOpen (view (args .n) (args .marks .now))))) done
 
 pub most-spec : {M : Type 1} → statement M
 most-spec =

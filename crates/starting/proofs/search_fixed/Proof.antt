@@ -16,9 +16,6 @@ mark-fixed-requires c κs = search needs
 fill-requires : tie.Need-fill-requires
 fill-requires c κs = search needs
 
-count-rows-requires : tie.Need-count-rows-requires
-count-rows-requires c κs = search needs
-
 same-length : tie.Need-same-length
 same-length c = search needs
 
@@ -27,8 +24,9 @@ same-length-2 c = search needs
 
 returns : tie.Need-returns
 returns c =
-    let p = c .before .before .before .before .before .before .before .before .before .before .before .before .before .before .before .before .before .before .before .before .before .before .before .before .before .before .before .pre in
-    searched _ (record { flat = c .before .before .before .before .before .before .before .before .before .before .before .before .before .before .before .before .before .before .before .before .before .before .before .before .before .before .before .args .flat .now; ends = c .before .before .before .before .before .before .before .before .before .before .before .before .before .before .before .before .before .before .before .before .before .before .before .before .before .before .before .args .ends .now; lit = c .before .before .before .before .before .before .before .before .before .before .before .before .before .before .before .before .before .before .before .before .before .before .before .before .before .before .before .args .lit .now; first = c .before .before .before .before .before .before .before .before .before .before .before .before .before .before .before .before .before .before .before .before .before .before .before .before .before .before .before .args .own .first .0; count = c .before .before .before .before .before .before .before .before .before .before .before .before .before .before .before .before .before .before .before .before .before .before .before .before .before .before .before .args .own .count }) _ _ _ _ _ _ _ _ _ _ _ (p .0) (p .1) (p .3) (p .4) (p .5) (c .before .before .before .before .before .before .before .before .before .before .before .before .before .before .before .before .before .before .before .pack-rows .ensures) (c .before .before .before .before .before .before .before .before .before .before .before .before .before .mark-fixed .ensures) (c .before .before .before .before .before .before .fill .ensures) (c .before .before .count-rows .ensures)
+    let start = c .before .before .before .before .before .before .before .before .before .before .before .before .before .before .before .before .before .before .before .before .before .before .before in
+    let p = start .pre in
+    searched _ (record { flat = start .args .flat .now; ends = start .args .ends .now; lit = start .args .lit .now; first = start .args .own .first .0; count = start .args .own .count }) _ _ _ _ _ _ _ _ _ _ (p .0) (p .1) (p .3) (p .4) (p .5) (c .before .before .before .before .before .before .before .before .before .before .before .before .before .before .before .pack-rows .ensures) (c .before .before .before .before .before .before .before .before .before .mark-fixed .ensures) (c .before .before .fill .ensures)
 
 pub search-fixed-spec : {M : Type 1} → statement M
 search-fixed-spec =
@@ -38,7 +36,6 @@ search-fixed-spec =
     cast-mark-fixed
     mark-fixed-requires
     fill-requires
-    count-rows-requires
     same-length
     same-length-2
     returns)

@@ -32,7 +32,7 @@ same-length-3 c = c .before .before .before .before .before .before .settle .ens
 returns : tie.Need-returns
 returns c =
     let start = c .before .before .before .before .before .before .before .before .before .before .before .before .before .before .before .before .before .before .before .before .before in
-    peel-turned _ _ _ _ _ _ _ (record { marks = start .args .marks .now; forms = start .args .forms .now; work = start .args .work .now }) _ _ (c .before .before .before .before .before .before .before .before .before .before .before .before .before .before .row-at .ensures) (c .before .before .before .before .before .before .before .before .before .before .side-of .ensures) (c .before .before .before .before .before .before .settle .ensures)
+    peel-turned _ _ _ _ _ _ _ _ (record { marks = start .args .marks .now; forms = start .args .forms .now; work = start .args .work .now }) _ _ (c .before .before .before .before .before .before .before .before .before .before .before .before .before .before .row-at .ensures) (c .before .before .before .before .before .before .before .before .before .before .side-of .ensures) (c .before .before .before .before .before .before .settle .ensures)
 
 pub peel-spec : {M : Type 1} → statement M
 peel-spec =

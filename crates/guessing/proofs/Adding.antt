@@ -1,0 +1,85 @@
+-- A share added at each qubit of a row, one by one. Assumes nothing.
+use mathlib.Core.Path.{_≡_, refl, _∙_, subst}
+use mathlib.Core.Bool.{false}
+use mathlib.Core.List.{List, _∷_}
+use Prim.Native.Nat.{ℕ, _+_, _%_, _≤_, _<_}
+use native.Mathlib.Numerals.{add-one}
+use native.Mathlib.Omega.{arith}
+use borrow.Author.Tests.{eqb-true, eqb-false, eq-eqb, ne-eqb}
+use lib.Dec.{eqb}
+use lib.ListN.{length, getD, set, drop, drop-of-length-le, length-set}
+use lib.Seq.{drop-cons, getD-set-same, getD-set-other}
+use Rattle.binary.specs.Meaning.{has}
+use Rattle.binary.proofs.Bits.{bit}
+use Rattle.code.proofs.Order.{Distinct, ascending-distinct}
+use Rattle.guessing.specs.Guessing.{weightOf, shareOf, changeOf, addedAt, AddedRow}
+
+-- With the share added at what is left of the row, from place i on, the numbers are what they come to.
+pub record Adding (n share : ℕ) (row old work : List ℕ) (i : ℕ) : Type 0 where
+  pub long : length work ≡ length old
+  pub below : (k : ℕ) → k < 9216 → getD work k 0 ≡ getD old k 0
+  pub past : (k : ℕ) → 9216 + n ≤ k → getD work k 0 ≡ getD old k 0
+  pub left : Distinct row
+      → Distinct (drop i row) × ((q : ℕ) → q < n → addedAt share (has (drop i row) q) (weightOf work q) ≡ addedAt share (has row q) (weightOf old q))
+
+pub adding-start : (n share : ℕ) (row old : List ℕ) → Adding n share row old old 0
+adding-start n share row old = record { long = refl; below = λ k h. refl; past = λ k h. refl; left = λ d. (d, λ q h. refl) }
+
+module _ (n share : ℕ) (row old work : List ℕ) (i : ℕ) (a : Adding n share row old work i) where
+  pub adding-end : length row ≤ i → AddedRow n share row old work
+  adding-end h = record {
+    long = a .long;
+    below = a .below;
+    past = a .past;
+    added = λ ascends q k small. rw (drop-of-length-le row h) at (a .left (ascending-distinct n row ascends) .1 q k);
+  }
+
+  module _ (at : ℕ) (is : at ≡ getD row i 0) (h : i < length row) where
+    rest : Distinct row → (has (drop (i + 1) row) at ≡ false) × Distinct (drop (i + 1) row)
+    rest d = rw (is, add-one i) (rw (drop-cons row i 0 h) at (a .left d .0))
+
+    turn : Distinct row → (q : ℕ) → q < n → addedAt share (has (at ∷ drop (i + 1) row) q) (weightOf work q) ≡ addedAt share (has row q) (weightOf old q)
+    turn d q k = rw (is, add-one i) (rw (drop-cons row i 0 h) at (a .left d .1 q k))
+
+    pub adding-yes : at < n → 9216 + at < length work → (v : ℕ) → v ≡ (weightOf work at % 4294967296 + share) % 4294967296
+        → Adding n share row old (set work (9216 + at) v) (i + 1)
+    adding-yes k l v e = record {
+      long = length-set work (9216 + at) v ∙ a .long;
+      below = λ j m. getD-set-other work (9216 + at) j v 0 (λ u. omega arith) ∙ a .below j m;
+      past = λ j m. getD-set-other work (9216 + at) j v 0 (λ u. omega arith) ∙ a .past j m;
+      left = λ d. (
+        rest d .1,
+        λ q m. bit (eqb at q)
+            (λ u. let y = eqb-true at q u in
+            rw (← y, rest d .0) (getD-set-same work (9216 + at) v 0 l ∙ e ∙ wrapped (weightOf work at) ∙ rw (eq-eqb at at refl) at (turn d at k)))
+            (λ u. rw (getD-set-other work (9216 + at) (9216 + q) v 0 (λ j. eqb-false at q u (omega arith))) (rw u at (turn d q m))),
+      );
+    }
+      where
+        wrapped : (x : ℕ) → (x % 4294967296 + share) % 4294967296 ≡ (x + share) % 4294967296
+        wrapped x = omega arith
+
+    pub adding-no : n ≤ at → Adding n share row old work (i + 1)
+    adding-no k = record {
+      long = a .long;
+      below = a .below;
+      past = a .past;
+      left = λ d. (rest d .1, λ q m. rw (ne-eqb at q (λ j. absurd (omega arith))) at (turn d q m));
+    }
+
+-- Nothing added: a share of 0.
+pub added-none : (n share : ℕ) (row work : List ℕ) → share ≡ 0 → AddedRow n share row work work
+added-none n share row work e =
+    record { long = refl; below = λ k h. refl; past = λ k h. refl; added = λ ascends q k small. bit (has row q) (λ u. rw (u, e) (omega arith)) (λ u. rw u) }
+
+pub added-as : (n share : ℕ) (row row′ work work′ : List ℕ) → row ≡ row′ → AddedRow n share row work work′ → AddedRow n share row′ work work′
+added-as n share row row′ work work′ e v = subst (λ (r : List ℕ). AddedRow n share r work work′) e v
+
+----------------------------------------------------------------------
+-- Shares are small
+
+pub share-small : (number share : ℕ) → share ≡ shareOf number → share < 4294967296
+share-small number share e = rw e (bit (eqb number 0) (λ u. rw u (omega arith)) (λ u. rw u (bit (eqb number 2) (λ w. rw w (omega arith)) (λ w. rw w (omega arith)))))
+
+pub change-small : (left share : ℕ) → share ≡ changeOf left → share < 4294967296
+change-small left share e = rw e (bit (eqb left 2) (λ u. rw u (omega arith)) (λ u. rw u (bit (eqb left 1) (λ w. rw w (omega arith)) (λ w. rw w (omega arith)))))

@@ -1,0 +1,217 @@
+-- The weights after a qubit is settled: of the rows on it, each by the number of open qubits that are left. Assumes nothing.
+use mathlib.Core.Path.{_≡_, refl, sym, ap, _∙_, subst}
+use mathlib.Core.Bool.{Bool, true, false, _&&_, cond}
+use mathlib.Core.Logic.{⊎-elim}
+use mathlib.Core.List.{List}
+use Prim.Native.Nat.{ℕ, suc, _+_, _*_, _/_, _%_, _≤_, _<_}
+use native.Mathlib.Omega.{arith}
+use borrow.Author.Tests.{eqb-true, eqb-false, ne-eqb, lt-ltb, le-ltb}
+use lib.Dec.{eqb, ltb}
+use lib.ListN.{length, getD}
+use Rattle.binary.specs.Bits.{tally}
+use Rattle.binary.specs.Words
+use Rattle.binary.specs.Meaning.{Qubits, Row, has}
+use Rattle.binary.proofs.Bits.{bit, never, tally-same, tally-up}
+use Rattle.binary.proofs.WordBits.{order}
+use Rattle.bitsets.specs.Bitsets.{inSet, NextIn}
+use Rattle.code.specs.Lists.{rowAt}
+use Rattle.code.specs.Tests.{Ascending}
+use Rattle.code.proofs.Order.{ascending-distinct}
+use Rattle.machine.specs.Machine.{put, part}
+use Rattle.scans.specs.Rows.{RowLists, GoodRows}
+use Rattle.scans.proofs.Checks.{here, was-read}
+use Rattle.kept.specs.Kept.{rowIn, openIn, Kept, RowsOn}
+use Rattle.kept.proofs.Same.{row-of}
+use Rattle.kept.proofs.Lowering.{not-has, one-less, has-none}
+use Rattle.guessing.specs.Guessing.{weightOf, Weighed, changeOf, addedAt, AddedRow, rowsIn, RenewedRows}
+use Rattle.guessing.proofs.Weighing.{hasIn, pairIn, weight-tally, weight-small}
+
+-- What is known of the list at the start of the loop.
+pub record Given (n : ℕ) (c : RowLists) (p : ℕ) (o : Qubits) (work₀ : List ℕ) : Type 0 where
+  pub good : GoodRows n c
+  pub inside : (q : ℕ) → o q ≡ true → q < n
+  pub open-p : o p ≡ true
+  pub kept : Kept (put p false o) c work₀
+  pub on : RowsOn o c work₀
+  pub weighed : Weighed o c work₀
+
+module _ (n : ℕ) (c : RowLists) (p : ℕ) (o : Qubits) (work₀ : List ℕ) (few : c .count ≤ 512) (g : Given n c p o work₀) where
+  abbrev o′ : Qubits
+  o′ = put p false o
+
+  -- The rows before row i are without the qubit.
+  abbrev pub mixed : ℕ → ℕ → ℕ → Bool
+  mixed i q j = cond (ltb j i) (pairIn o′ c q j) (pairIn o c q j)
+
+  abbrev pub mixedWeight : ℕ → ℕ → ℕ
+  mixedWeight i q = 1024 * tally (c .count) (mixed i q) + tally (c .count) (hasIn c q)
+
+  pub mixed-start : (q : ℕ) → o q ≡ true → weightOf work₀ q ≡ mixedWeight 0 q
+  mixed-start q t =
+      g .weighed .weights q t ∙ weight-tally o c q
+      ∙ ap (λ (x : ℕ). 1024 * x + tally (c .count) (hasIn c q)) (tally-same (c .count) (mixed 0 q) (pairIn o c q) (λ j l. rw (le-ltb j 0 (omega arith))))
+
+  pub mixed-end : (i q : ℕ) → c .count ≤ i → mixedWeight i q ≡ 1024 * tally (c .count) (pairIn o′ c q) + tally (c .count) (hasIn c q)
+  mixed-end i q h = ap (λ (x : ℕ). 1024 * x + tally (c .count) (hasIn c q)) (tally-same (c .count) (pairIn o′ c q) (mixed i q) (λ j l. rw (lt-ltb j i (omega arith))))
+
+  -- Rows that are not on the qubit are passed over.
+  pub mixed-pass : (i i′ q : ℕ) → i ≤ i′ → i′ ≤ c .count → ((j : ℕ) → i ≤ j → j < i′ → inSet work₀ p j ≡ false) → mixedWeight i q ≡ mixedWeight i′ q
+  mixed-pass i i′ q a b none-on = ap (λ (x : ℕ). 1024 * x + tally (c .count) (hasIn c q)) (tally-same (c .count) (mixed i′ q) (mixed i q) same)
+    where
+      off : (j : ℕ) → i ≤ j → j < i′ → pairIn o′ c q j ≡ pairIn o c q j
+      off j l m =
+          let gone = sym (g .on .on p j (g .open-p) (omega arith)) ∙ none-on j l m in
+          ap (λ (x : List ℕ). eqb (length x) 2 && has (rowIn c j) q) (not-has o p (rowIn c j) gone)
+
+      same : (j : ℕ) → j < c .count → mixed i q j ≡ mixed i′ q j
+      same j h =
+          ⊎-elim (λ (l : j < i). rw (lt-ltb j i l, lt-ltb j i′ (omega arith)))
+          (λ (l : i ≤ j). ⊎-elim (λ (m : j < i′). rw (le-ltb j i l, lt-ltb j i′ m) (sym (off j l m)))
+          (λ (m : i′ ≤ j). rw (le-ltb j i l, le-ltb j i′ m)) (order j i′)) (order j i)
+
+  -- Row i, which is on the qubit.
+  module _ (i : ℕ) (h : i < c .count) (found : inSet work₀ p i ≡ true) (left : ℕ) (is : left ≡ openIn o′ c i) (q x : ℕ) (e : x ≡ mixedWeight i q) where
+    on-it : (was-read c i ≡ true) × (has (here c i .row) p ≡ true)
+    on-it = has-none (was-read c i) (here c i .row) p (sym (g .on .on p i (g .open-p) h) ∙ found)
+
+    row-is : rowIn c i ≡ here c i .row
+    row-is = rw (on-it .0)
+
+    was : openIn o c i ≡ suc left
+    was =
+        let d = ascending-distinct n (here c i .row) (row-of (Ascending n) (c .flat) (c .ends) (c .first) (c .count) i h (g .good)) in
+        ap (λ (r : Row). length (part o r)) row-is ∙ one-less o p (here c i .row) d (g .open-p) (on-it .1)
+        ∙ ap suc (sym (is ∙ ap (λ (r : Row). length (part o′ r)) row-is))
+
+    after : (j : ℕ) → i ≤ j → (i ≡ j → ⊥) → i + 1 ≤ j
+    after j m d = ⊎-elim (λ (l : j < i + 1). absurd (d (omega arith))) (λ (l : i + 1 ≤ j). l) (order j (i + 1))
+
+    others : (j : ℕ) → eqb i j ≡ false → mixed (i + 1) q j ≡ mixed i q j
+    others j d = ⊎-elim (λ (m : j < i). rw (lt-ltb j i m, lt-ltb j (i + 1) (omega arith))) (λ (m : i ≤ j). rw (le-ltb j i m, le-ltb j (i + 1) (after j m (eqb-false i j d)))) (order j i)
+
+    before-it : mixed i q i ≡ (eqb (suc left) 2 && has (here c i .row) q)
+    before-it = rw (le-ltb i i (omega arith)) (rw (was, row-is))
+
+    after-it : mixed (i + 1) q i ≡ (eqb left 2 && has (here c i .row) q)
+    after-it = rw (lt-ltb i (i + 1) (omega arith)) (rw (← is, row-is))
+
+    abbrev A : ℕ
+    A = tally (c .count) (mixed i q)
+
+    abbrev A′ : ℕ
+    A′ = tally (c .count) (mixed (i + 1) q)
+
+    abbrev B : ℕ
+    B = tally (c .count) (hasIn c q)
+
+    same : mixed (i + 1) q i ≡ mixed i q i → A′ ≡ A
+    same w = tally-same (c .count) (mixed i q) (mixed (i + 1) q) (λ j l. bit (eqb i j) (λ u. subst (λ (k : ℕ). mixed (i + 1) q k ≡ mixed i q k) (eqb-true i j u) w) (others j))
+
+    small : x < 1048576
+    small = let z = weight-small o c q (c .count) (c .count) few few (mixed i q) in omega arith
+
+    pub mixed-row : addedAt (changeOf left) (has (here c i .row) q) x ≡ mixedWeight (i + 1) q
+    mixed-row =
+        bit (has (here c i .row) q) (λ u. holds u)
+        (λ u. rw u (let z = same (after-it ∙ rw u (none (eqb left 2) (eqb (suc left) 2)) ∙ sym before-it) in omega arith))
+      where
+        none : (a b : Bool) → (a && false) ≡ (b && false)
+        none true true = refl
+        none true false = refl
+        none false true = refl
+        none false false = refl
+
+        comes : (k : ℕ) → k ≡ suc A → (x + 1024) % 4294967296 ≡ 1024 * k + B
+        comes k z = let l = small in omega arith
+
+        goes : (k : ℕ) → A ≡ suc k → (x + 4294966272) % 4294967296 ≡ 1024 * k + B
+        goes k z = let l = small in omega arith
+
+        stays : (k : ℕ) → k ≡ A → (x + 0) % 4294967296 ≡ 1024 * k + B
+        stays k z = let l = small in omega arith
+
+        holds : has (here c i .row) q ≡ true → addedAt (changeOf left) (has (here c i .row) q) x ≡ mixedWeight (i + 1) q
+        holds u =
+            bit (eqb left 2)
+            (λ two. let m = eqb-true left 2 two in
+            let up : A′ ≡ suc A = tally-up (c .count) i (mixed i q) (mixed (i + 1) q) h (before-it ∙ rw m) (after-it ∙ rw (m, u)) others in
+            rw (u, m) (comes A′ up))
+            (λ more. bit (eqb left 1)
+            (λ one. let m = eqb-true left 1 one in
+            let down : A ≡ suc A′ = tally-up (c .count) i (mixed (i + 1) q) (mixed i q) h (after-it ∙ rw m) (before-it ∙ rw (m, u)) (λ j d. sym (others j d)) in
+            rw (u, m) (goes A′ down))
+            (λ other.
+            let past : eqb (suc left) 2 ≡ false = ne-eqb (suc left) 2 (λ j. eqb-false left 1 other (omega arith)) in
+            let z = same (after-it ∙ ap (_&& has (here c i .row) q) more ∙ sym (before-it ∙ ap (_&& has (here c i .row) q) past)) in
+            rw (u, more, other) (stays A′ z)))
+
+----------------------------------------------------------------------
+-- The loop
+
+-- Whatever the list holds: its length, and the elements beside the weights, stay; row i is the next on the qubit.
+pub record Renewing (n : ℕ) (flat ends : List ℕ) (first count p : ℕ) (work₀ work : List ℕ) (i : ℕ) : Type 0 where
+  pub long : length work ≡ length work₀
+  pub below : (k : ℕ) → k < 9216 → getD work k 0 ≡ getD work₀ k 0
+  pub past : (k : ℕ) → 9216 + n ≤ k → getD work k 0 ≡ getD work₀ k 0
+  pub found : i < count → inSet work p i ≡ true
+  pub within : i ≤ count
+  pub so : (lit : List ℕ) → let c = rowsIn flat ends first count lit in (few : count ≤ 512) (o : Qubits) (g : Given n c p o work₀)
+      → (q : ℕ) → o q ≡ true → weightOf work q ≡ mixedWeight n c p o work₀ few g i q
+
+module _ (n : ℕ) (flat ends : List ℕ) (first count p : ℕ) (work₀ : List ℕ) where
+  pub renewing-start : (i : ℕ) → NextIn work₀ p 0 count i → Renewing n flat ends first count p work₀ work₀ i
+  renewing-start i f =
+      let w = f .within (omega arith) in
+      record {
+        long = refl;
+        below = λ k h. refl;
+        past = λ k h. refl;
+        found = f .found;
+        within = w .1;
+        so = λ lit few o g q t. let c = rowsIn flat ends first count lit in mixed-start n c p o work₀ few g q t ∙ mixed-pass n c p o work₀ few g 0 i q (omega arith) (w .1) (f .skipped);
+      }
+
+  module _ (work : List ℕ) (i : ℕ) (a : Renewing n flat ends first count p work₀ work i) (few : count ≤ 512) where
+    -- A list that has the same rows on the qubit.
+    same-set : (work′ : List ℕ) → ((k : ℕ) → k < 9216 → getD work′ k 0 ≡ getD work₀ k 0) → p < 1024 → (j : ℕ) → j < 512 → inSet work′ p j ≡ inSet work₀ p j
+    unfolding inSet
+    same-set work′ below small j l = ap (λ (x : ℕ). Words.bit x (j % 64)) (below (8 * p + j / 64) (omega arith))
+
+    pub renewing-row : i < count → n ≤ 1024 → (left share : ℕ) → left ≡ getD work (8704 + i) 0 → share ≡ changeOf left → (work′ : List ℕ)
+        → AddedRow n share (rowAt flat ends (first + i)) work work′ → (i′ : ℕ) → NextIn work′ p (i + 1) count i′ → Renewing n flat ends first count p work₀ work′ i′
+    renewing-row h size left share is e work′ v i′ f =
+        let w = f .within (omega arith) in
+        record {
+          long = v .long ∙ a .long;
+          below = below;
+          past = λ k l. v .past k l ∙ a .past k l;
+          found = f .found;
+          within = w .1;
+          so = λ lit few′ o g q t.
+              let c = rowsIn flat ends first count lit in
+              let old = a .so lit few′ o g q t in
+              let tight = weight-small o c q count count few few (mixed n c p o work₀ few′ g i q) in
+              let inside = g .inside p (g .open-p) in
+              let small : p < 1024 = omega arith in
+              v .added (row-of (Ascending n) flat ends first count i h (g .good)) q (g .inside q t) (omega arith) ∙ ap (λ (s : ℕ). addedAt s (has (rowAt flat ends (first + i)) q) (weightOf work q)) e
+              ∙ mixed-row n c p o work₀ few′ g i h (sym (same-set work (a .below) small i (omega arith)) ∙ a .found h) left (is ∙ a .below (8704 + i) (omega arith) ∙ g .kept .counts i h) q (weightOf work q) old
+              ∙ mixed-pass n c p o work₀ few′ g (i + 1) i′ q (w .0) (w .1) (λ j l m. sym (same-set work′ below small j (omega arith)) ∙ f .skipped j l m);
+        }
+      where
+        below : (k : ℕ) → k < 9216 → getD work′ k 0 ≡ getD work₀ k 0
+        below k l = v .below k l ∙ a .below k l
+
+    pub renewing-end : count ≤ i → RenewedRows n flat ends first count p work₀ work
+    renewing-end h = record {
+      long = a .long;
+      below = a .below;
+      past = a .past;
+      renewed = λ lit good o inside open-p kept on weighed.
+          let c = rowsIn flat ends first count lit in
+          let g : Given n c p o work₀ = record { good = good; inside = inside; open-p = open-p; kept = kept; on = on; weighed = weighed } in
+          record {
+            weights = λ q t.
+                let was : o q ≡ true = bit (eqb p q) (λ u. never (rw u at t) refl) (λ u. rw u at t) in
+                a .so lit few o g q was ∙ mixed-end n c p o work₀ few g i q h ∙ sym (weight-tally (put p false o) c q);
+          };
+    }
