@@ -5,6 +5,7 @@ mod cells;
 mod codes;
 mod decoder;
 mod eliminate;
+mod guesses;
 mod lines;
 mod matrix;
 mod rack;
@@ -19,7 +20,9 @@ use judge::random::Random;
 use std::process::ExitCode;
 use timing::Program;
 
-const USAGE: &str = "usage: bench/run [--quick] [--seconds S] [--seed N]";
+const USAGE: &str = "usage:
+  bench/run [--quick] [--seconds S] [--seed N]
+  bench/run guesses [--shots N] [--seed N]";
 
 /// Percent of the qubits.
 const LOSSES: [usize; 7] = [1, 5, 10, 20, 30, 40, 50];
@@ -30,28 +33,37 @@ struct Options {
     seed: u64,
     seconds: f64,
     rounds: usize,
+    /// A cell of the guesses.
+    shots: usize,
 }
 
 impl Options {
     fn read(mut words: impl Iterator<Item = String>) -> Option<Options> {
-        let mut options = Options { seed: 1, seconds: 0.3, rounds: 3 };
+        let mut options = Options { seed: 1, seconds: 0.3, rounds: 3, shots: 1_000 };
         while let Some(word) = words.next() {
             match word.as_str() {
                 "--quick" => (options.seconds, options.rounds) = (0.05, 2),
                 "--seconds" => options.seconds = words.next()?.parse().ok()?,
                 "--seed" => options.seed = words.next()?.parse().ok()?,
+                "--shots" => options.shots = words.next()?.parse().ok()?,
                 _ => return None,
             }
         }
-        (options.seconds > 0.0).then_some(options)
+        (options.seconds > 0.0 && options.shots > 0).then_some(options)
     }
 }
 
 fn main() -> ExitCode {
-    let words: Vec<String> = std::env::args().skip(1).collect();
-    let done = match words.first().map(String::as_str) {
+    let mut words = std::env::args().skip(1).peekable();
+    let command = words.next_if(|word| !word.starts_with("--"));
+    let options = |words| Options::read(words).ok_or(String::from(USAGE));
+    let done = match command.as_deref() {
+        None => options(words).and_then(run),
+        Some("guesses") => {
+            options(words).map(|options| guesses::print(options.shots, options.seed))
+        }
         Some("eliminate") => lines::eliminate(),
-        _ => Options::read(words.into_iter()).ok_or(USAGE.into()).and_then(run),
+        Some(_) => Err(USAGE.into()),
     };
     match done {
         Ok(()) => ExitCode::SUCCESS,
@@ -85,7 +97,7 @@ fn run(options: Options) -> Result<(), String> {
 }
 
 fn print_facts(options: &Options) {
-    let Options { seed, seconds, rounds } = options;
+    let Options { seed, seconds, rounds, .. } = options;
     let (least, most) = SHOTS;
     let Asked { budget, limit } = Asked::AMPLE;
     let cores = match std::thread::available_parallelism() {

@@ -32,7 +32,7 @@ impl Stream {
 
 /// Each qubit is lost with the given percentage; a lost one has each error half of the time. Every
 /// row is read.
-pub fn shot(code: &Code, loss: usize, random: &mut Random) -> Vec<u8> {
+pub fn draw(code: &Code, loss: usize, random: &mut Random) -> Shot {
     let n = code.n;
     let lost = Bits::of(n, (0..n).filter(|_| random.percent(loss)));
     let mut lit = |rows: &[Row]| {
@@ -41,7 +41,12 @@ pub fn shot(code: &Code, loss: usize, random: &mut Random) -> Vec<u8> {
     };
     let (lit_z, lit_x) = (lit(&code.z), lit(&code.x));
     let [.., unread_z, unread_x] = Shot::empty(code).sets;
-    let shot = Shot { sets: [lost, lit_z, lit_x, unread_z, unread_x] };
+    Shot { sets: [lost, lit_z, lit_x, unread_z, unread_x] }
+}
+
+/// The records of a shot that is drawn, and its decode.
+pub fn shot(code: &Code, loss: usize, random: &mut Random) -> Vec<u8> {
+    let shot = draw(code, loss, random);
     [records::shot(&shot).concat(), records::decode(Asked::AMPLE)].concat()
 }
 

@@ -14,12 +14,27 @@ pub fn decode_by(wrong: Wrong, half: &Half, asked: Asked) -> Report {
     machine.report(word)
 }
 
+/// What a half needs with the largest budget: how many qubits are guessed, and how many guesses are live at once.
+pub struct Needs {
+    pub word: Word,
+    pub guesses: usize,
+    pub live: usize,
+}
+
+pub fn needs(wrong: Wrong, half: &Half) -> Needs {
+    let mut machine = Machine::new(half, wrong);
+    let word = machine.run(Asked::AMPLE);
+    Needs { word, guesses: machine.count(&[mark::GUESSED]), live: machine.most_live }
+}
+
 struct Machine<'a> {
     half: &'a Half<'a>,
     wrong: Wrong,
     marks: Vec<u8>,
     forms: Vec<u64>,
     live: usize,
+    /// The most that were live at once.
+    most_live: usize,
     /// The rows that can dangle, in the order in which they are tried.
     peeling: Vec<usize>,
     /// The rows that are taken up when they are closed, ascending.
@@ -41,7 +56,8 @@ impl<'a> Machine<'a> {
         }
         let closing = wrong.rows(half, Part::Close);
         let forms = vec![0; half.n];
-        Machine { half, wrong, marks, forms, live: 0, peeling, closing, counted, first: Vec::new() }
+        let (live, most_live, first) = (0, 0, Vec::new());
+        Machine { half, wrong, marks, forms, live, most_live, peeling, closing, counted, first }
     }
 
     fn run(&mut self, asked: Asked) -> Word {
@@ -161,6 +177,7 @@ impl<'a> Machine<'a> {
             None => {
                 let qubit = self.guess();
                 self.live += 1;
+                self.most_live = self.most_live.max(self.live);
                 self.forms[qubit] = 1 << self.live & self.wrong.form_bits();
                 self.marks[qubit] = mark::GUESSED;
                 qubit
