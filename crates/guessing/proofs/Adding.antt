@@ -12,25 +12,34 @@ use lib.Seq.{drop-cons, getD-set-same, getD-set-other}
 use Rattle.binary.specs.Meaning.{has}
 use Rattle.binary.proofs.Bits.{bit}
 use Rattle.code.proofs.Order.{Distinct, ascending-distinct}
-use Rattle.guessing.specs.Guessing.{weightOf, shareOf, changeOf, addedAt, AddedRow}
+use Rattle.guessing.specs.Guessing.{weightOf, shareOf, changeOf, addedAt, WeightsAlone, AddedRow}
+
+pub alone-same : (n : ℕ) (work : List ℕ) → WeightsAlone n work work
+alone-same n work = record { long = refl; below = λ k h. refl; past = λ k h. refl }
+
+pub alone-on : (n : ℕ) (old mid new : List ℕ) → WeightsAlone n old mid → WeightsAlone n mid new → WeightsAlone n old new
+alone-on n old mid new a b = record { long = b .long ∙ a .long; below = λ k h. b .below k h ∙ a .below k h; past = λ k h. b .past k h ∙ a .past k h }
+
+alone-set : (n : ℕ) (work : List ℕ) (q v : ℕ) → q < n → WeightsAlone n work (set work (9216 + q) v)
+alone-set n work q v h = record {
+  long = length-set work (9216 + q) v;
+  below = λ k l. getD-set-other work (9216 + q) k v 0 (λ u. omega arith);
+  past = λ k l. getD-set-other work (9216 + q) k v 0 (λ u. omega arith);
+}
 
 -- With the share added at what is left of the row, from place i on, the numbers are what they come to.
 pub record Adding (n share : ℕ) (row old work : List ℕ) (i : ℕ) : Type 0 where
-  pub long : length work ≡ length old
-  pub below : (k : ℕ) → k < 9216 → getD work k 0 ≡ getD old k 0
-  pub past : (k : ℕ) → 9216 + n ≤ k → getD work k 0 ≡ getD old k 0
+  pub alone : WeightsAlone n old work
   pub left : Distinct row
       → Distinct (drop i row) × ((q : ℕ) → q < n → addedAt share (has (drop i row) q) (weightOf work q) ≡ addedAt share (has row q) (weightOf old q))
 
 pub adding-start : (n share : ℕ) (row old : List ℕ) → Adding n share row old old 0
-adding-start n share row old = record { long = refl; below = λ k h. refl; past = λ k h. refl; left = λ d. (d, λ q h. refl) }
+adding-start n share row old = record { alone = alone-same n old; left = λ d. (d, λ q h. refl) }
 
 module _ (n share : ℕ) (row old work : List ℕ) (i : ℕ) (a : Adding n share row old work i) where
   pub adding-end : length row ≤ i → AddedRow n share row old work
   adding-end h = record {
-    long = a .long;
-    below = a .below;
-    past = a .past;
+    alone = a .alone;
     added = λ ascends q k small. rw (drop-of-length-le row h) at (a .left (ascending-distinct n row ascends) .1 q k);
   }
 
@@ -44,9 +53,7 @@ module _ (n share : ℕ) (row old work : List ℕ) (i : ℕ) (a : Adding n share
     pub adding-yes : at < n → 9216 + at < length work → (v : ℕ) → v ≡ (weightOf work at % 4294967296 + share) % 4294967296
         → Adding n share row old (set work (9216 + at) v) (i + 1)
     adding-yes k l v e = record {
-      long = length-set work (9216 + at) v ∙ a .long;
-      below = λ j m. getD-set-other work (9216 + at) j v 0 (λ u. omega arith) ∙ a .below j m;
-      past = λ j m. getD-set-other work (9216 + at) j v 0 (λ u. omega arith) ∙ a .past j m;
+      alone = alone-on n old work (set work (9216 + at) v) (a .alone) (alone-set n work at v k);
       left = λ d. (
         rest d .1,
         λ q m. bit (eqb at q)
@@ -61,16 +68,14 @@ module _ (n share : ℕ) (row old work : List ℕ) (i : ℕ) (a : Adding n share
 
     pub adding-no : n ≤ at → Adding n share row old work (i + 1)
     adding-no k = record {
-      long = a .long;
-      below = a .below;
-      past = a .past;
+      alone = a .alone;
       left = λ d. (rest d .1, λ q m. rw (ne-eqb at q (λ j. absurd (omega arith))) at (turn d q m));
     }
 
 -- Nothing added: a share of 0.
 pub added-none : (n share : ℕ) (row work : List ℕ) → share ≡ 0 → AddedRow n share row work work
 added-none n share row work e =
-    record { long = refl; below = λ k h. refl; past = λ k h. refl; added = λ ascends q k small. bit (has row q) (λ u. rw (u, e) (omega arith)) (λ u. rw u) }
+    record { alone = alone-same n work; added = λ ascends q k small. bit (has row q) (λ u. rw (u, e) (omega arith)) (λ u. rw u) }
 
 pub added-as : (n share : ℕ) (row row′ work work′ : List ℕ) → row ≡ row′ → AddedRow n share row work work′ → AddedRow n share row′ work work′
 added-as n share row row′ work work′ e v = subst (λ (r : List ℕ). AddedRow n share r work work′) e v

@@ -18,12 +18,13 @@ use Rattle.code.specs.Lists.{rowAt}
 use Rattle.code.specs.Tests.{Ascending}
 use Rattle.code.proofs.Order.{ascending-distinct}
 use Rattle.machine.specs.Machine.{put, part}
-use Rattle.scans.specs.Rows.{RowLists, GoodRows}
+use Rattle.scans.specs.Rows.{RowLists, rowsIn, GoodRows}
 use Rattle.scans.proofs.Checks.{here, was-read}
 use Rattle.kept.specs.Kept.{rowIn, openIn, Kept, RowsOn}
 use Rattle.kept.proofs.Same.{row-of}
 use Rattle.kept.proofs.Lowering.{not-has, one-less, has-none}
-use Rattle.guessing.specs.Guessing.{weightOf, Weighed, changeOf, addedAt, AddedRow, rowsIn, RenewedRows}
+use Rattle.guessing.specs.Guessing.{weightOf, Weighed, changeOf, addedAt, WeightsAlone, AddedRow, RenewedRows}
+use Rattle.guessing.proofs.Adding.{alone-same, alone-on}
 use Rattle.guessing.proofs.Weighing.{hasIn, pairIn, weight-tally, weight-small}
 
 -- What is known of the list at the start of the loop.
@@ -150,9 +151,7 @@ module _ (n : ℕ) (c : RowLists) (p : ℕ) (o : Qubits) (work₀ : List ℕ) (f
 
 -- Whatever the list holds: its length, and the elements beside the weights, stay; row i is the next on the qubit.
 pub record Renewing (n : ℕ) (flat ends : List ℕ) (first count p : ℕ) (work₀ work : List ℕ) (i : ℕ) : Type 0 where
-  pub long : length work ≡ length work₀
-  pub below : (k : ℕ) → k < 9216 → getD work k 0 ≡ getD work₀ k 0
-  pub past : (k : ℕ) → 9216 + n ≤ k → getD work k 0 ≡ getD work₀ k 0
+  pub alone : WeightsAlone n work₀ work
   pub found : i < count → inSet work p i ≡ true
   pub within : i ≤ count
   pub so : (lit : List ℕ) → let c = rowsIn flat ends first count lit in (few : count ≤ 512) (o : Qubits) (g : Given n c p o work₀)
@@ -163,9 +162,7 @@ module _ (n : ℕ) (flat ends : List ℕ) (first count p : ℕ) (work₀ : List 
   renewing-start i f =
       let w = f .within (omega arith) in
       record {
-        long = refl;
-        below = λ k h. refl;
-        past = λ k h. refl;
+        alone = alone-same n work₀;
         found = f .found;
         within = w .1;
         so = λ lit few o g q t. let c = rowsIn flat ends first count lit in mixed-start n c p o work₀ few g q t ∙ mixed-pass n c p o work₀ few g 0 i q (omega arith) (w .1) (f .skipped);
@@ -182,9 +179,7 @@ module _ (n : ℕ) (flat ends : List ℕ) (first count p : ℕ) (work₀ : List 
     renewing-row h size left share is e work′ v i′ f =
         let w = f .within (omega arith) in
         record {
-          long = v .long ∙ a .long;
-          below = below;
-          past = λ k l. v .past k l ∙ a .past k l;
+          alone = alone;
           found = f .found;
           within = w .1;
           so = λ lit few′ o g q t.
@@ -194,18 +189,16 @@ module _ (n : ℕ) (flat ends : List ℕ) (first count p : ℕ) (work₀ : List 
               let inside = g .inside p (g .open-p) in
               let small : p < 1024 = omega arith in
               v .added (row-of (Ascending n) flat ends first count i h (g .good)) q (g .inside q t) (omega arith) ∙ ap (λ (s : ℕ). addedAt s (has (rowAt flat ends (first + i)) q) (weightOf work q)) e
-              ∙ mixed-row n c p o work₀ few′ g i h (sym (same-set work (a .below) small i (omega arith)) ∙ a .found h) left (is ∙ a .below (8704 + i) (omega arith) ∙ g .kept .counts i h) q (weightOf work q) old
-              ∙ mixed-pass n c p o work₀ few′ g (i + 1) i′ q (w .0) (w .1) (λ j l m. sym (same-set work′ below small j (omega arith)) ∙ f .skipped j l m);
+              ∙ mixed-row n c p o work₀ few′ g i h (sym (same-set work (a .alone .below) small i (omega arith)) ∙ a .found h) left (is ∙ a .alone .below (8704 + i) (omega arith) ∙ g .kept .counts i h) q (weightOf work q) old
+              ∙ mixed-pass n c p o work₀ few′ g (i + 1) i′ q (w .0) (w .1) (λ j l m. sym (same-set work′ (alone .below) small j (omega arith)) ∙ f .skipped j l m);
         }
       where
-        below : (k : ℕ) → k < 9216 → getD work′ k 0 ≡ getD work₀ k 0
-        below k l = v .below k l ∙ a .below k l
+        alone : WeightsAlone n work₀ work′
+        alone = alone-on n work₀ work work′ (a .alone) (v .alone)
 
     pub renewing-end : count ≤ i → RenewedRows n flat ends first count p work₀ work
     renewing-end h = record {
-      long = a .long;
-      below = a .below;
-      past = a .past;
+      alone = a .alone;
       renewed = λ lit good o inside open-p kept on weighed.
           let c = rowsIn flat ends first count lit in
           let g : Given n c p o work₀ = record { good = good; inside = inside; open-p = open-p; kept = kept; on = on; weighed = weighed } in

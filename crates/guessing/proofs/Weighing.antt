@@ -1,5 +1,5 @@
 -- The weights counted, row by row, from what is kept of the rows. Assumes nothing.
-use mathlib.Core.Path.{_≡_, refl, sym, ap, ap₂, _∙_, subst}
+use mathlib.Core.Path.{_≡_, refl, sym, ap, ap₂, _∙_}
 use mathlib.Core.Bool.{Bool, true, false, _&&_, cond}
 use mathlib.Core.Logic.{inl, inr}
 use mathlib.Core.List.{List, [], _∷_}
@@ -12,16 +12,18 @@ use lib.Dec.{eqb}
 use lib.ListN.{length, getD}
 use Rattle.binary.specs.Bits.{count, tally}
 use Rattle.binary.specs.Meaning.{Qubits, Row, Check, has}
-use Rattle.binary.proofs.Bits.{bit, never, or-out, tally-same, tally-first, tally-few}
+use Rattle.binary.proofs.Bits.{bit, never, tally-same, tally-first, tally-few}
 use Rattle.code.specs.Lists.{rowAt}
 use Rattle.code.specs.Tests.{Ascending}
 use Rattle.lists.specs.Cleared.{Cleared}
-use Rattle.machine.specs.Machine.{keepIf, part, pair?, passing, degree}
-use Rattle.scans.specs.Rows.{RowLists, checkAt, read?, checksFrom, rowChecks, GoodRows}
+use Rattle.machine.specs.Machine.{keepIf, part, empty?, pair?, passing, degree}
+use Rattle.scans.specs.Rows.{RowLists, rowsIn, checkAt, read?, checksFrom, rowChecks, GoodRows}
 use Rattle.scans.proofs.Checks.{here, was-read}
 use Rattle.kept.specs.Kept.{rowIn, openIn, Kept}
 use Rattle.kept.proofs.Same.{row-of, kept-same}
-use Rattle.guessing.specs.Guessing.{weightOf, weight, shareOf, addedAt, AddedRow, rowsIn, WeighedRows}
+use Rattle.kept.proofs.Lowering.{has-open}
+use Rattle.guessing.specs.Guessing.{weightOf, weight, shareOf, addedAt, WeightsAlone, AddedRow, WeighedRows}
+use Rattle.guessing.proofs.Adding.{alone-same, alone-on}
 
 ----------------------------------------------------------------------
 -- Rows by their numbers
@@ -81,12 +83,9 @@ module _ (o : Qubits) (c : RowLists) (q : ℕ) where
   pub weight-small : (k l : ℕ) → k ≤ 512 → l ≤ 512 → (f : ℕ → Bool) → 1024 * tally k f + tally l (hasIn c q) < 1048576
   weight-small k l a b f = omega (arith, tally-few k f, tally-few l (hasIn c q))
 
--- A row that has an open qubit is not closed.
-pub open-some : (o : Qubits) (q : ℕ) (r : Row) → o q ≡ true → has r q ≡ true → 1 ≤ length (part o r)
-open-some o q [] t e = never e refl
-open-some o q (p ∷ r) t e =
-    bit (o p) (λ u. rw u (omega arith))
-    (λ u. rw u (open-some o q r t (or-out (eqb p q) (has r q) e (λ i. never (subst (λ (x : ℕ). o x ≡ true) (sym (eqb-true p q i)) t) u) (λ i. i))))
+some-length : (l : List ℕ) → empty? l ≡ false → 1 ≤ length l
+some-length [] e = never refl e
+some-length (q ∷ l) e = omega arith
 
 -- What a row adds to the weight of an open qubit.
 module _ (o : Qubits) (q : ℕ) (t : o q ≡ true) (number : ℕ) where
@@ -95,7 +94,7 @@ module _ (o : Qubits) (q : ℕ) (t : o q ≡ true) (number : ℕ) where
   shared false row x y z e w s = rw (e, w) (bit (has row q) (λ u. rw u (omega arith)) (λ u. rw u))
   shared true row x y z e w s =
       bit (has row q)
-      (λ u. let some = open-some o q row t u in
+      (λ u. let some = some-length (part o row) (has-open o q row t u) in
       bit (eqb number 2)
       (λ j. let m = eqb-true number 2 j in rw (← e, m, u, w) (omega arith))
       (λ j. rw (← e, ne-eqb number 0 (λ m. absurd (omega arith)), j, u, w) (omega arith)))
@@ -110,9 +109,7 @@ module _ (o : Qubits) (q : ℕ) (t : o q ≡ true) (number : ℕ) where
 
 -- The rows before row i are counted.
 pub record Counting (n : ℕ) (flat ends : List ℕ) (first count : ℕ) (work₀ work : List ℕ) (i : ℕ) : Type 0 where
-  pub long : length work ≡ length work₀
-  pub below : (k : ℕ) → k < 9216 → getD work k 0 ≡ getD work₀ k 0
-  pub past : (k : ℕ) → 9216 + n ≤ k → getD work k 0 ≡ getD work₀ k 0
+  pub alone : WeightsAlone n work₀ work
   pub so : (lit : List ℕ) → let c = rowsIn flat ends first count lit in GoodRows n c
       → (o : Qubits) → ((q : ℕ) → o q ≡ true → q < n) → Kept o c work₀
       → (q : ℕ) → o q ≡ true → weightOf work q ≡ 1024 * tally i (pairIn o c q) + tally i (hasIn c q)
@@ -120,17 +117,13 @@ pub record Counting (n : ℕ) (flat ends : List ℕ) (first count : ℕ) (work�
 module _ (n : ℕ) (flat ends : List ℕ) (first count : ℕ) (old work₀ : List ℕ) (f : Cleared 9216 (9216 + n) old work₀) where
   pub counting-start : Counting n flat ends first count work₀ work₀ 0
   counting-start = record {
-    long = refl;
-    below = λ k h. refl;
-    past = λ k h. refl;
+    alone = alone-same n work₀;
     so = λ lit good o inside k q e. let l = inside q e in f .inside (9216 + q) (omega arith) (omega arith);
   }
 
   pub counting-end : (work : List ℕ) (i : ℕ) → Counting n flat ends first count work₀ work i → i ≡ count → count ≤ 512 → WeighedRows n flat ends first count old work
   counting-end work i a e few = record {
-    long = a .long ∙ f .long;
-    below = λ k h. a .below k h ∙ f .outside k (inl h);
-    past = λ k h. a .past k h ∙ f .outside k (inr h);
+    alone = alone-on n old work₀ work (record { long = f .long; below = λ k h. f .outside k (inl h); past = λ k h. f .outside k (inr h) }) (a .alone);
     weighed = λ lit good o inside k.
         let c = rowsIn flat ends first count lit in
         let kept = kept-same o c old work₀ few (λ j h. f .outside (8192 + j) (inl (omega arith))) (λ j h. f .outside (8704 + j) (inl (omega arith))) k in
@@ -143,9 +136,7 @@ module _ (n : ℕ) (flat ends : List ℕ) (first count : ℕ) (work₀ work : Li
   pub counting-row : i < count → count ≤ 512 → (number share : ℕ) → number ≡ getD work (8704 + i) 0 → share ≡ shareOf number → (work′ : List ℕ)
       → AddedRow n share (rowAt flat ends (first + i)) work work′ → Counting n flat ends first count work₀ work′ (i + 1)
   counting-row h few number share is e work′ v = record {
-    long = v .long ∙ a .long;
-    below = λ k l. v .below k l ∙ a .below k l;
-    past = λ k l. v .past k l ∙ a .past k l;
+    alone = alone-on n work₀ work work′ (a .alone) (v .alone);
     so = λ lit good o inside k q t.
         let c = rowsIn flat ends first count lit in
         let old = a .so lit good o inside k q t in
@@ -153,5 +144,5 @@ module _ (n : ℕ) (flat ends : List ℕ) (first count : ℕ) (work₀ work : Li
         rw (add-one i)
         (v .added (row-of (Ascending n) flat ends first count i h good) q (inside q t) (omega arith) ∙ ap (λ (s : ℕ). addedAt s (has (rowAt flat ends (first + i)) q) (weightOf work q)) e
         ∙ shared o q t number (was-read c i) (rowAt flat ends (first + i)) (tally i (pairIn o c q)) (tally i (hasIn c q)) (weightOf work q)
-        (is ∙ a .below (8704 + i) (omega arith) ∙ k .counts i h) old (omega arith));
+        (is ∙ a .alone .below (8704 + i) (omega arith) ∙ k .counts i h) old (omega arith));
   }

@@ -1,16 +1,17 @@
 -- The guess rule by numbers that are kept: one for each open qubit, its weight, in the work list from element 9216 on.
---   weightOf    the number that the list has of a qubit
---   weight      1024 for each row on the qubit that has exactly two open qubits, and 1 for each row on it
---   Weighed     the kept numbers of the open qubits are a fresh count over the marks
---   shareOf     what a row adds at each of its qubits, by the number of its open qubits
---   changeOf    what a row adds when one of its qubits is settled: it comes to two open qubits, or leaves them
---   AddedRow    a weight added at each qubit of a row
---   Weighs      the promise of `weigh`: the weights counted
---   Renews      the promise of `renew`: the weights after a qubit is settled
---   choiceOf    the qubit that the rule names, as an answer
---   betterOf    the better of the qubit named so far and of a higher open one
---   NamedBelow  the qubit named, if any, is below n
---   heaviest    the promise of `most_open`: the open qubit of the largest weight, the lowest of equals
+--   weightOf      the number that the list has of a qubit
+--   weight        1024 for each row on the qubit that has exactly two open qubits, and 1 for each row on it
+--   Weighed       the kept numbers of the open qubits are a fresh count over the marks
+--   shareOf       what a row adds at each of its qubits, by the number of its open qubits
+--   changeOf      what a row adds when one of its qubits is settled: it comes to two open qubits, or leaves them
+--   WeightsAlone  nothing but weights is written
+--   AddedRow      a share added at each qubit of a row
+--   Weighs        the promise of `weigh`: the weights counted
+--   Renews        the promise of `renew`: the weights after a qubit is settled
+--   choiceOf      the qubit that the rule names, as an answer
+--   betterOf      the better of the qubit named so far and of a higher open one
+--   NamedBelow    the qubit named, if any, is below n
+--   heaviest      the promise of `most_open`: the open qubit of the largest weight, the lowest of equals
 use mathlib.Core.Path.{_≡_}
 use mathlib.Core.Bool.{Bool, true, false, _&&_, cond}
 use mathlib.Core.Option.{Option, none, some}
@@ -21,7 +22,7 @@ use lib.ListN.{length, getD}
 use Rattle.binary.specs.Meaning.{Qubits, Check, has}
 use Rattle.code.specs.declared.Qubit.{Qubit}
 use Rattle.code.specs.Tests.{Ascending}
-use Rattle.scans.specs.Rows.{RowLists, rowChecks, GoodRows}
+use Rattle.scans.specs.Rows.{RowLists, rowsIn, rowChecks, GoodRows}
 use Rattle.kept.specs.Kept.{Kept, RowsOn}
 use Rattle.guessing.specs.declared.Choice.{Choice}
 use Rattle.guessing.specs.declared.Choice.the-variants.{NoQubit, Named}
@@ -51,33 +52,29 @@ changeOf left = cond (eqb left 2) 1024 (cond (eqb left 1) 4294966272 0)
 abbrev pub addedAt : ℕ → Bool → ℕ → ℕ
 addedAt share on x = cond on ((x + share) % 4294967296) x
 
--- Of a row without repeats.
-pub record AddedRow (n share : ℕ) (row work work′ : List ℕ) : Type 0 where
+-- The length, and each element but the weights of the n qubits, stay.
+pub record WeightsAlone (n : ℕ) (work work′ : List ℕ) : Type 0 where
   pub long : length work′ ≡ length work
   pub below : (k : ℕ) → k < 9216 → getD work′ k 0 ≡ getD work k 0
   pub past : (k : ℕ) → 9216 + n ≤ k → getD work′ k 0 ≡ getD work k 0
+
+-- Of a row without repeats.
+pub record AddedRow (n share : ℕ) (row work work′ : List ℕ) : Type 0 where
+  pub alone : WeightsAlone n work work′
   pub added : Ascending n row → (q : ℕ) → q < n → weightOf work q < 4294967296 → weightOf work′ q ≡ addedAt share (has row q) (weightOf work q)
 
 ----------------------------------------------------------------------
 -- Counted, and kept
 
--- The half's rows, with any readings.
-abbrev pub rowsIn : List ℕ → List ℕ → ℕ → ℕ → List ℕ → RowLists
-rowsIn flat ends first count lit = record { flat = flat; ends = ends; lit = lit; first = first; count = count }
-
 -- From what is kept of the rows.
 pub record WeighedRows (n : ℕ) (flat ends : List ℕ) (first count : ℕ) (work work′ : List ℕ) : Type 0 where
-  pub long : length work′ ≡ length work
-  pub below : (k : ℕ) → k < 9216 → getD work′ k 0 ≡ getD work k 0
-  pub past : (k : ℕ) → 9216 + n ≤ k → getD work′ k 0 ≡ getD work k 0
+  pub alone : WeightsAlone n work work′
   pub weighed : (lit : List ℕ) → let c = rowsIn flat ends first count lit in GoodRows n c
       → (o : Qubits) → ((q : ℕ) → o q ≡ true → q < n) → Kept o c work → Weighed o c work′
 
 -- Qubit p was settled, and what is kept of the rows is without it.
 pub record RenewedRows (n : ℕ) (flat ends : List ℕ) (first count p : ℕ) (work work′ : List ℕ) : Type 0 where
-  pub long : length work′ ≡ length work
-  pub below : (k : ℕ) → k < 9216 → getD work′ k 0 ≡ getD work k 0
-  pub past : (k : ℕ) → 9216 + n ≤ k → getD work′ k 0 ≡ getD work k 0
+  pub alone : WeightsAlone n work work′
   pub renewed : (lit : List ℕ) → let c = rowsIn flat ends first count lit in GoodRows n c
       → (o : Qubits) → ((q : ℕ) → o q ≡ true → q < n) → o p ≡ true → Kept (put p false o) c work → RowsOn o c work → Weighed o c work → Weighed (put p false o) c work′
 

@@ -10,13 +10,13 @@ use lib.ListN.{length, getD}
 use borrow.Author.Tests.{eq-eqb, ne-eqb, eqb-true, eqb-false, lt-ltb, le-ltb}
 use Rattle.binary.specs.Words
 use Rattle.binary.specs.Meaning.{Qubits, Row, has}
-use Rattle.binary.proofs.Bits.{bit, never}
+use Rattle.binary.proofs.Bits.{bit, never, or-out}
 use Rattle.binary.proofs.WordBits.{order}
 use Rattle.bitsets.specs.Bitsets.{inSet, NextIn}
 use Rattle.code.specs.Lists.{rowAt}
 use Rattle.code.specs.Tests.{Ascending}
 use Rattle.code.proofs.Order.{Distinct, ascending-distinct}
-use Rattle.machine.specs.Machine.{put, part}
+use Rattle.machine.specs.Machine.{put, part, empty?}
 use Rattle.scans.specs.Rows.{RowLists, GoodRows}
 use Rattle.scans.proofs.Checks.{here, was-read}
 use Rattle.kept.specs.Kept.{rowIn, openIn, Kept, RowsOn, Tallied, Lowered, LoweredRows}
@@ -47,6 +47,13 @@ one-less o p (q ∷ r) d t e =
     let other : eqb p q ≡ false = ne-eqb p q (λ i. eqb-false q p u (sym i)) in
     let less = one-less o p r (d .1) t rest in
     rw other (bit (o q) (λ y. rw y (ap suc less)) (λ y. rw y less)))
+
+-- A row that has an open qubit is not closed.
+pub has-open : (o : Qubits) (p : ℕ) (r : Row) → o p ≡ true → has r p ≡ true → empty? (part o r) ≡ false
+has-open o p [] t e = never e refl
+has-open o p (q ∷ r) t e =
+    bit (o q) (λ u. rw u)
+    (λ u. rw u (has-open o p r t (or-out (eqb q p) (has r p) e (λ i. never (subst (λ (x : ℕ). o x ≡ true) (sym (eqb-true q p i)) t) u) (λ i. i))))
 
 pub has-none : (b : Bool) (row : Row) (p : ℕ) → has (cond b row []) p ≡ true → (b ≡ true) × (has row p ≡ true)
 has-none true row p e = (refl, e)

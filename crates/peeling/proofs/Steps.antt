@@ -18,14 +18,14 @@ use Rattle.machine.specs.Peeling.{peelStep, peeled, peelsAway}
 use Rattle.machine.proofs.Settling.{part-open}
 use Rattle.machine.proofs.Stages.{dangling-is, open-put}
 use Rattle.machine.proofs.Peeling.{peeled-plus, peeled-less, peeled-stays}
-use Rattle.scans.specs.Rows.{RowLists, rowChecks}
+use Rattle.scans.specs.Rows.{RowLists, rowsIn, rowChecks}
 use Rattle.scans.specs.Scans.{OpenFrom, countMarks}
 use Rattle.scans.proofs.Checks.{here}
 use Rattle.scans.proofs.Scanning.{open-below, view-set, rest-set, some-open}
 use Rattle.kept.specs.Kept.{dangles?, Kept, Lowest, LoweredRows}
 use Rattle.kept.proofs.Same.{rows-same}
 use Rattle.kept.proofs.Dangling.{dangling-none, found-inside, dangling-found}
-use Rattle.peeling.specs.Peeling.{Lists, rowsIn, openIn, Ready, Stays, Settles, OneStep, fits?, Told, Peels}
+use Rattle.peeling.specs.Peeling.{Lists, openIn, Ready, Stays, Settles, OneStep, fits?, Told, Peels}
 
 pub stays-same : (n : ℕ) (l : Lists) → Stays n l l
 stays-same n l = record { marks-long = refl; work-long = refl; rest = λ q h. refl; below = λ k h. refl; past = λ k h. refl }

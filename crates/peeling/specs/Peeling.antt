@@ -1,6 +1,5 @@
--- What peeling in the lists does.
+-- What peeling in the lists does. Which rows were read is told by what is kept of them.
 --   Lists    marks, and what is kept of the rows over them
---   rowsIn   the half's rows, with any readings: which rows were read is told by what is kept of them
 --   Ready    what is kept of the rows is right
 --   Stays    lengths, and elements beside those of the peeling, stay
 --   OneStep  the lowest dangling row settles its open qubit
@@ -16,15 +15,12 @@ use Rattle.binary.specs.Meaning.{Qubits, Check}
 use Rattle.machine.specs.Machine.{put, isOpen, dangling}
 use Rattle.machine.specs.Lists.{view}
 use Rattle.machine.specs.Peeling.{peeled, peelsAway}
-use Rattle.scans.specs.Rows.{RowLists, rowChecks, GoodRows}
+use Rattle.scans.specs.Rows.{RowLists, rowsIn, rowChecks, GoodRows}
 use Rattle.kept.specs.Kept.{Kept, RowsOn}
 
 pub record Lists : Type 0 where
   pub marks : List ℕ
   pub work : List ℕ
-
-abbrev pub rowsIn : List ℕ → List ℕ → ℕ → ℕ → List ℕ → RowLists
-rowsIn flat ends first count lit = record { flat = flat; ends = ends; lit = lit; first = first; count = count }
 
 abbrev pub openIn : ℕ → Lists → Qubits
 openIn n l = isOpen (view n (l .marks))

@@ -1,5 +1,5 @@
 -- The rows of a half in the lists of the code, with their readings.
---   RowLists    the lists, with the half's first row and how many it has
+--   RowLists    the lists, with the half's first row and how many it has; rowsIn: the rows, with any readings
 --   read?       whether a row was read; readRow: its qubits, none of an unread row
 --   checksFrom  the rows that were read, from a row on, with their readings; rowChecks: the half's
 --   GoodRows    the half's rows are strictly ascending and below n
@@ -19,6 +19,9 @@ pub record RowLists : Type 0 where
   pub lit : List ℕ
   pub first : ℕ
   pub count : ℕ
+
+abbrev pub rowsIn : List ℕ → List ℕ → ℕ → ℕ → List ℕ → RowLists
+rowsIn flat ends first count lit = record { flat = flat; ends = ends; lit = lit; first = first; count = count }
 
 abbrev pub checkAt : List ℕ → List ℕ → List ℕ → ℕ → Check
 checkAt flat ends lit r = record { lit = lit? (getD lit r 0); row = rowAt flat ends r }

@@ -20,14 +20,14 @@ use Rattle.machine.specs.Machine.{isOpen, keepIf, startMark}
 use Rattle.machine.specs.Lists.{view}
 use Rattle.machine.specs.Peeling.{peelsAway}
 use Rattle.machine.proofs.Peeling.{unfixed}
-use Rattle.scans.specs.Rows.{RowLists, read?, checkAt, checksFrom, rowChecks, GoodRows}
+use Rattle.scans.specs.Rows.{RowLists, rowsIn, read?, checkAt, checksFrom, rowChecks, GoodRows}
 use Rattle.scans.proofs.Scanning.{open-below}
 use Rattle.kept.specs.Kept.{Kept, RowsOn}
 use Rattle.kept.proofs.Same.{kept-same, rows-same}
 use Rattle.filling.specs.Filling as filling
 use Rattle.filling.specs.Filling.{Fills}
 use Rattle.peeling.specs.Peeling as peeling
-use Rattle.peeling.specs.Peeling.{Peels, Ready, rowsIn}
+use Rattle.peeling.specs.Peeling.{Peels, Ready}
 use Rattle.search.specs.declared.Search.{Search}
 use Rattle.search.specs.Marked.{Marked}
 use Rattle.starting.specs.Fills.{Filled, openMark}

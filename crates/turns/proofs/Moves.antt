@@ -30,6 +30,7 @@ use Rattle.kept.specs.Kept.{dangles?, Lowest}
 use Rattle.kept.proofs.Same.{kept-same, rows-same}
 use Rattle.kept.proofs.Dangling.{dangling-none, found-inside, dangling-found}
 use Rattle.guessing.specs.Guessing.{Weighs, lighter, choiceOf, heaviest}
+use Rattle.guessing.proofs.Adding.{alone-same}
 use Rattle.guessing.proofs.Room.{does-weigh, named-as}
 use Rattle.guessing.proofs.Choices.{weighed-rule}
 use Rattle.turns.specs.Turns.{Working, Ready, Stays, Turned, peelBy, guessBy, turnBy, WeighedOnce, Guessed, MovedBy, Moved}
@@ -72,12 +73,12 @@ stays-same n old = record { marks-long = refl; forms-long = refl; work-long = re
 
 module _ (n : ℕ) (flat ends : List ℕ) (first count : ℕ) (weighed : Bool) (work : List ℕ) where
   pub once-kept : not weighed ≡ false → WeighedOnce n flat ends first count weighed work work
-  once-kept e = record { long = refl; below = λ k h. refl; weights = λ lit good o inside k w. w (bit weighed (λ t. t) (λ f. never (not-in f) e)) }
+  once-kept e = record { alone = alone-same n work; weights = λ lit good o inside k w. w (bit weighed (λ t. t) (λ f. never (not-in f) e)) }
 
   pub once-counted : n ≤ 1024 → count ≤ 512 → first + count ≤ 1024 → 10240 ≤ length work → (work′ : List ℕ) → Weighs n flat ends first count work work′
       → WeighedOnce n flat ends first count weighed work work′
   once-counted a b d e work′ v =
-      let w = v .weighs (does-weigh n first count work a b d e) in record { long = w .long; below = w .below; weights = λ lit good o inside k u. w .weighed lit good o inside k }
+      let w = v .weighs (does-weigh n first count work a b d e) in record { alone = w .alone; weights = λ lit good o inside k u. w .weighed lit good o inside k }
 
 -- A list that keeps the same of the rows, with the weights.
 module _ (n : ℕ) (c : RowLists) (live : ℕ) (weighed : Bool) (old : Working) (work′ : List ℕ) (size : n ≤ 1024) (few : c .count ≤ 512)
@@ -86,7 +87,7 @@ module _ (n : ℕ) (c : RowLists) (live : ℕ) (weighed : Bool) (old : Working) 
   mid = record { marks = old .marks; forms = old .forms; work = work′ }
 
   stays-mid : Stays n old mid
-  stays-mid = record { marks-long = refl; forms-long = refl; work-long = once .long; marks-rest = λ q h. refl; forms-rest = λ q h. refl }
+  stays-mid = record { marks-long = refl; forms-long = refl; work-long = once .alone .long; marks-rest = λ q h. refl; forms-rest = λ q h. refl }
 
   module _ (good : GoodRows n c) (ready : Ready n c live weighed old) where
     abbrev o : Qubits
@@ -95,8 +96,8 @@ module _ (n : ℕ) (c : RowLists) (live : ℕ) (weighed : Bool) (old : Working) 
     mid-ready : Ready n c live true mid
     mid-ready = record {
       topped = ready .topped;
-      kept = kept-same o c (old .work) work′ few (λ j h. once .below (8192 + j) (omega arith)) (λ j h. once .below (8704 + j) (omega arith)) (ready .kept);
-      on = rows-same n o o c (old .work) work′ few (λ k h. once .below k (omega arith)) (λ q e. let l = open-below n (old .marks) q e in (e, omega arith)) (ready .on);
+      kept = kept-same o c (old .work) work′ few (λ j h. once .alone .below (8192 + j) (omega arith)) (λ j h. once .alone .below (8704 + j) (omega arith)) (ready .kept);
+      on = rows-same n o o c (old .work) work′ few (λ k h. once .alone .below k (omega arith)) (λ q e. let l = open-below n (old .marks) q e in (e, omega arith)) (ready .on);
       weights = λ e. once .weights (c .lit) good o (open-below n (old .marks)) (ready .kept) (ready .weights);
       unguessed = λ e. never refl e;
     }

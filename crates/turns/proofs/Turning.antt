@@ -2,7 +2,7 @@
 use mathlib.Core.Path.{_≡_, refl, sym, ap, ap₂, _∙_, fun-ext, subst}
 use mathlib.Core.Bool.{Bool, true, false, not, _&&_}
 use mathlib.Core.Option.{Option, none, some}
-use mathlib.Core.List.{List, [], _∷_}
+use mathlib.Core.List.{List}
 use Prim.Native.Nat.{ℕ, suc, _+_, _*_, _%_, _^_, _≤_, _<_}
 use native.Mathlib.Numerals.{add-one}
 use native.Mathlib.Omega.{arith}
@@ -11,12 +11,12 @@ use lib.ListN.{length, getD, set}
 use lib.ListN.{length-set}
 use Rattle.binary.specs.Meaning.{Qubits, Row, Check, has}
 use Rattle.binary.specs.Words.{bit}
-use Rattle.binary.proofs.Bits.{bit as cases, never, eqb-eq, eqb-sym, eqb-differ, or-out}
+use Rattle.binary.proofs.Bits.{bit as cases, never, eqb-sym, eqb-differ}
 use Rattle.binary.proofs.WordBits.{bit-pow, one-shl}
 use Rattle.code.specs.Lists.{rowAt}
 use Rattle.forms.specs.declared.Taken.{Taken}
 use Rattle.forms.specs.declared.Taken.the-variants.{Live}
-use Rattle.machine.specs.Machine.{Form, Forms, put, isOpen, part, empty?, closed?, closing, side, takeUpAll, stage, settle}
+use Rattle.machine.specs.Machine.{Form, Forms, put, isOpen, closed?, closing, side, takeUpAll, stage, settle}
 use Rattle.machine.specs.Lists.{view, formsOf}
 use Rattle.forms.specs.Forms.{withLive, Topped, TakenAs}
 use Rattle.turns.specs.Lists.{stateOf}
@@ -25,9 +25,10 @@ use Rattle.scans.specs.Rows.{RowLists, rowChecks, GoodRows}
 use Rattle.scans.proofs.Scanning.{open-below, view-set, rest-set}
 use Rattle.kept.specs.Kept.{Kept, RowsOn}
 use Rattle.kept.proofs.Same.{kept-same, rows-same}
-use Rattle.guessing.specs.Guessing.{Weighed, Renews}
+use Rattle.guessing.specs.Guessing.{Weighed, WeightsAlone, Renews}
+use Rattle.guessing.proofs.Adding.{alone-same}
 use Rattle.guessing.proofs.Room.{does-weigh}
-use Rattle.kept.proofs.Lowering.{not-has}
+use Rattle.kept.proofs.Lowering.{not-has, has-open}
 use Rattle.closing.specs.Closing.{closedAt?, TakenRows, ClosingRows}
 use Rattle.closing.proofs.TakingRows.{never-live}
 use Rattle.turns.specs.Turns.{Working, isGuessed, Ready, StageAs, Turns, Turned, ToppedWord, settleBy, Settled, peelBy, guessBy}
@@ -43,13 +44,6 @@ forms-set n l p word i j =
 
 ----------------------------------------------------------------------
 -- The rows that a turn closed
-
--- A row that has an open qubit is not closed.
-has-open : (o : Qubits) (p : ℕ) (r : Row) → o p ≡ true → has r p ≡ true → empty? (part o r) ≡ false
-has-open o p [] t e = never e refl
-has-open o p (q ∷ r) t e =
-    cases (o q) (λ u. rw u)
-    (λ u. rw u (has-open o p r t (or-out (eqb q p) (has r p) e (λ i. never (subst (λ (x : ℕ). o x ≡ true) (sym (eqb-eq q p i)) t) u) (λ i. i))))
 
 closing-test : (mark : ℕ → ℕ) (p m : ℕ) → isOpen mark p ≡ true → eqb m 4 ≡ false → (c : Check)
     → closing mark (put p m mark) c ≡ closedAt? false p (isOpen (put p m mark)) c
@@ -69,18 +63,17 @@ closing-test mark p m t e c =
 
 -- From a list without qubit p in what is kept of the rows.
 pub record Follows (n : ℕ) (c : RowLists) (p : ℕ) (weighed : Bool) (work work′ : List ℕ) : Type 0 where
-  pub long : length work′ ≡ length work
-  pub below : (k : ℕ) → k < 9216 → getD work′ k 0 ≡ getD work k 0
+  pub alone : WeightsAlone n work work′
   pub weights : weighed ≡ true → GoodRows n c → (o : Qubits) → ((q : ℕ) → o q ≡ true → q < n) → o p ≡ true → Kept (put p false o) c work → RowsOn o c work
       → Weighed o c work → Weighed (put p false o) c work′
 
 pub follows-not : (n : ℕ) (c : RowLists) (p : ℕ) (weighed : Bool) (work : List ℕ) → weighed ≡ false → Follows n c p weighed work work
-follows-not n c p weighed work e = record { long = refl; below = λ k h. refl; weights = λ t. never t e }
+follows-not n c p weighed work e = record { alone = alone-same n work; weights = λ t. never t e }
 
 pub follows-renewed : (n : ℕ) (c : RowLists) (p : ℕ) (weighed : Bool) (work work′ : List ℕ) → n ≤ 1024 → c .count ≤ 512 → c .first + c .count ≤ 1024 → 10240 ≤ length work
     → Renews n (c .flat) (c .ends) (c .first) (c .count) p work work′ → Follows n c p weighed work work′
 follows-renewed n c p weighed work work′ a b d e v =
-    let w = v .renews (does-weigh n (c .first) (c .count) work a b d e) in record { long = w .long; below = w .below; weights = λ t good o inside is-open kept on weighs. w .renewed (c .lit) good o inside is-open kept on weighs }
+    let w = v .renews (does-weigh n (c .first) (c .count) work a b d e) in record { alone = w .alone; weights = λ t good o inside is-open kept on weighs. w .renewed (c .lit) good o inside is-open kept on weighs }
 
 ----------------------------------------------------------------------
 -- A qubit settled
@@ -123,7 +116,7 @@ module _ (n : ℕ) (c : RowLists) (old : Working) (forms′ work₁ work′ : Li
         stays = record {
           marks-long = length-set (old .marks) p m;
           forms-long = v .forms-long ∙ length-set (old .forms) p word;
-          work-long = follows .long ∙ v .work-long;
+          work-long = follows .alone .long ∙ v .work-long;
           marks-rest = rest-set n (old .marks) p m below;
           forms-rest = λ q l. v .forms-rest q l ∙ rest-set n (old .forms) p word below q l;
         };
@@ -166,8 +159,8 @@ module _ (n : ℕ) (c : RowLists) (old : Working) (forms′ work₁ work′ : Li
             ready = λ k e. record {
               topped = topped-of taken (took-as w) k e;
               kept = subst (λ (f : Qubits). Kept f c work′) (sym open-then)
-                  (kept-same (put p false o) c work₁ work′ few (λ j h. follows .below (8192 + j) (omega arith)) (λ j h. follows .below (8704 + j) (omega arith)) (w .kept k e));
-              on = rows-same n o (isOpen (view n marks′)) c (old .work) work′ few (λ j h. follows .below j (omega arith) ∙ v .below j h) still (ready .on);
+                  (kept-same (put p false o) c work₁ work′ few (λ j h. follows .alone .below (8192 + j) (omega arith)) (λ j h. follows .alone .below (8704 + j) (omega arith)) (w .kept k e));
+              on = rows-same n o (isOpen (view n marks′)) c (old .work) work′ few (λ j h. follows .alone .below j (omega arith) ∙ v .below j h) still (ready .on);
               weights = λ u. subst (λ (f : Qubits). Weighed f c work′) (sym open-then)
                   (follows .weights u good o (open-below n (old .marks)) is-open (w .kept k e) (on-then ready)
                   (record { weights = λ q s. v .past (9216 + q) (omega arith) ∙ ready .weights u .weights q s }));

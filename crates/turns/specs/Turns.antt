@@ -19,7 +19,7 @@ use Rattle.binary.specs.Meaning.{Qubits}
 use Rattle.binary.specs.Words.{bit}
 use Rattle.forms.specs.declared.Taken.{Taken}
 use Rattle.forms.specs.declared.Taken.the-variants.{Failed, Live}
-use Rattle.scans.specs.Rows.{RowLists, checkAt, rowChecks, GoodRows}
+use Rattle.scans.specs.Rows.{RowLists, rowsIn, checkAt, rowChecks, GoodRows}
 use Rattle.kept.specs.Kept.{Kept, RowsOn}
 use Rattle.turns.specs.declared.Move.{Move}
 use Rattle.turns.specs.declared.Move.the-variants.{Spent, Made}
@@ -28,7 +28,7 @@ use Rattle.machine.specs.Machine.{State, Stage, on, failed, End, put, isOpen, d
 use Rattle.machine.specs.Report.{none?}
 use Rattle.machine.specs.Lists.{view, formsOf}
 use Rattle.forms.specs.Forms.{Topped}
-use Rattle.guessing.specs.Guessing.{Weighed, rowsIn}
+use Rattle.guessing.specs.Guessing.{Weighed, WeightsAlone}
 use Rattle.turns.specs.Lists.{stateOf}
 
 pub record Working : Type 0 where
@@ -108,8 +108,7 @@ someOpen n marks = below n (λ q. not (isOpen (view n marks) q)) ≡ false
 
 -- The weights are counted, unless they are kept.
 pub record WeighedOnce (n : ℕ) (flat ends : List ℕ) (first count : ℕ) (weighed : Bool) (work work′ : List ℕ) : Type 0 where
-  pub long : length work′ ≡ length work
-  pub below : (k : ℕ) → k < 9216 → getD work′ k 0 ≡ getD work k 0
+  pub alone : WeightsAlone n work work′
   pub weights : (lit : List ℕ) → let c = rowsIn flat ends first count lit in GoodRows n c
       → (o : Qubits) → ((q : ℕ) → o q ≡ true → q < n) → Kept o c work → (weighed ≡ true → Weighed o c work) → Weighed o c work′
 

@@ -60,7 +60,7 @@ loop-again c =
     )
 
 same-length : tie.Need-same-length Inv-loop μ-loop
-same-length c = c .before .loop .inv .1 .long
+same-length c = c .before .loop .inv .1 .alone .long
 
 returns : tie.Need-returns Inv-loop μ-loop
 returns c = adding-end _ _ _ _ _ _ (c .before .loop .inv .1) (search needs)

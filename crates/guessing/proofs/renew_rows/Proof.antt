@@ -61,7 +61,7 @@ loop-again c =
     let start = c .before .before .before .before .before .before .before .before .before .before .before .before .before .before .before .before in
     let added = c .before .before .before .before .add-row .ensures in (
       w .1,
-      added .long ∙ l .1,
+      added .alone .long ∙ l .1,
       renewing-row _ _ _ _ _ _ _ _ _ (l .2) (start .pre .1) (c .before .before .before .before .before .before .before .before .loop-test .taken) (start .pre .0) _ _ refl (c .before .before .before .before .before .before .change .ensures) _ added _ (c .next-in2 .ensures),
     )
 

@@ -59,7 +59,7 @@ loop-again c =
     let l = c .before .before .before .before .before .before .before .loop .inv in
     let added = c .before .before .add-row .ensures in (
       search needs,
-      added .long ∙ l .1,
+      added .alone .long ∙ l .1,
       counting-row _ _ _ _ _ _ _ _ (l .2) (c .before .before .before .before .before .before .loop-test .taken) (c .before .before .before .before .before .before .before .before .before .before .before .before .before .before .before .before .pre .1) _ _ refl (c .before .before .before .before .share .ensures) _ added,
     )
 
