@@ -27,7 +27,7 @@ use Rattle.halves.specs.Decode.{Given, ownRows, fitting, Decodes}
 use Rattle.turns.specs.declared.RunAnswer.{RunAnswer}
 use Rattle.turns.specs.declared.RunAnswer.the-variants.{Over}
 use Rattle.turns.specs.declared.RunAnswer.the-variants as turns-answer
-use Rattle.turns.specs.Turns.{Working, Stays, isGuessed}
+use Rattle.turns.specs.Turns.{Working, Stays, isGuessed, KeptOver}
 use Rattle.turns.specs.Runs.{Ran, Runs}
 use Rattle.turns.specs.Runs as runs
 use Rattle.starting.specs.Starting.{fixedIn, Begun, Starts}
@@ -94,11 +94,13 @@ module _ (n : ℕ) (c : RowLists) (mid : Working) (correction : List ℕ) (new :
       inside : (q : ℕ) → q < n → view n (mid .marks) q ≡ view n (new .marks) q
       inside q i = rw (lt-ltb q n i) (sym (f .marks .first q i ∙ rw (word, j)))
 
-  pub ended-kept : none? (e .word) ≡ false → Kept (isOpen (view n (new .marks))) c (mid .work)
-  ended-kept j = subst (λ (m : ℕ → ℕ). Kept (isOpen m) c (mid .work)) (marks-stay j) (v .kept j)
-
-  pub ended-weights : none? (e .word) ≡ false → (q : ℕ) → isGuessed n (new .marks) q ≡ true → Weighed (isOpen (view n (new .marks))) c (mid .work)
-  ended-weights j = subst (λ (m : ℕ → ℕ). (q : ℕ) → eqb (m q) 3 ≡ true → Weighed (isOpen m) c (mid .work)) (marks-stay j) (v .weights j)
+  pub ended-kept : none? (e .word) ≡ false → KeptOver n c (new .marks) (mid .work)
+  ended-kept j =
+      let w = v .kept j in
+      record {
+        rows = subst (λ (m : ℕ → ℕ). Kept (isOpen m) c (mid .work)) (marks-stay j) (w .rows);
+        weights = subst (λ (m : ℕ → ℕ). (q : ℕ) → eqb (m q) 3 ≡ true → Weighed (isOpen m) c (mid .work)) (marks-stay j) (w .weights);
+      }
 
   pub ended-shows : (old : HalfLists) → Past n old new → Shows n (shown n e) old new
   unfolding shown
@@ -136,7 +138,6 @@ half-done n c lost other others budget limit marks marks₁ forms correction wor
       past = past;
       shows = λ obey. let w = ran obey in (w .report, ended-shows n c mid correction new r e w f (record { marks = marks; forms = forms; correction = correction }) past);
       kept = λ obey. ended-kept n c mid correction new r e (ran obey) f;
-      weights = λ obey. ended-weights n c mid correction new r e (ran obey) f;
     }
   where
     e : End
@@ -219,7 +220,6 @@ module _ (g : Given) (work : List ℕ) (old : HalfLists) (told : Bool)
         answered = λ i. never i (fitting-is g (length work) old ∙ sym tells ∙ e);
         decoded = λ i. never i (fitting-is g (length work) old ∙ sym tells ∙ e);
         kept = λ i. never i (fitting-is g (length work) old ∙ sym tells ∙ e);
-        weights = λ i. never i (fitting-is g (length work) old ∙ sym tells ∙ e);
       }
 
   pub decodes-done : told ≡ true → (work′ : List ℕ) (new : HalfLists) (r : HalfReport) → length work′ ≡ length work
@@ -234,5 +234,4 @@ module _ (g : Given) (work : List ℕ) (old : HalfLists) (told : Bool)
         answered = λ i f. let z : _≡_ {A = ℕ} 0 1 = cc in omega arith;
         decoded = λ i obey. let z = v .shows obey in (ap Decoded (z .0), z .1);
         kept = λ i obey ended. v .kept obey ended;
-        weights = λ i obey ended. v .weights obey ended;
       }

@@ -12,12 +12,9 @@ use lib.ListN.{length}
 use Rattle.halves.specs.declared.HalfAnswer.{HalfAnswer}
 use Rattle.halves.specs.declared.HalfAnswer.the-variants.{Refused, Decoded}
 use Rattle.scans.specs.Rows.{RowLists}
-use Rattle.kept.specs.Kept.{Kept}
-use Rattle.guessing.specs.Guessing.{Weighed}
-use Rattle.turns.specs.Turns.{isGuessed}
-use Rattle.machine.specs.Machine.{isOpen}
+use Rattle.turns.specs.Turns.{KeptOver}
 use Rattle.machine.specs.Report.{none?, outcome}
-use Rattle.machine.specs.Lists.{view, HalfLists, Past, Shows, SameLengths}
+use Rattle.machine.specs.Lists.{HalfLists, Past, Shows, SameLengths}
 use Rattle.halves.specs.Lists.{halfOf}
 use Rattle.halves.specs.Starts.{RowsObey}
 
@@ -61,7 +58,4 @@ pub record Decodes (g : Given) (work work′ : List ℕ) (old new : HalfLists) (
       (r ≡ Decoded (s .report)) × Shows (g .n) s old new
   pub kept : fitting g (length work) old ≡ true → RowsObey (g .n) (ownRows g) (g .other) (g .others)
       → none? (outcome (halfOf (g .n) (g .flat) (g .ends) (g .lost) (g .lit) (g .first) (g .count) (g .other) (g .others)) (g .budget) (g .limit) .report .word) ≡ false
-      → Kept (isOpen (view (g .n) (new .marks))) (ownRows g) work′
-  pub weights : fitting g (length work) old ≡ true → RowsObey (g .n) (ownRows g) (g .other) (g .others)
-      → none? (outcome (halfOf (g .n) (g .flat) (g .ends) (g .lost) (g .lit) (g .first) (g .count) (g .other) (g .others)) (g .budget) (g .limit) .report .word) ≡ false
-      → (q : ℕ) → isGuessed (g .n) (new .marks) q ≡ true → Weighed (isOpen (view (g .n) (new .marks))) (ownRows g) work′
+      → KeptOver (g .n) (ownRows g) (new .marks) work′

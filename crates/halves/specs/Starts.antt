@@ -5,7 +5,7 @@
 --   RowsObey    the rows obey document 01
 --   HalfDone    the whole decode of a half
 use mathlib.Core.Path.{_≡_}
-use mathlib.Core.Bool.{Bool, true, false, _&&_, cond}
+use mathlib.Core.Bool.{Bool, false, _&&_, cond}
 use mathlib.Core.List.{List}
 use Prim.Native.Nat.{ℕ, _+_, _%_}
 use lib.Dec.{leb}
@@ -14,15 +14,13 @@ use Rattle.binary.specs.Meaning.{All, Commute}
 use Rattle.code.specs.Lists.{rowsFrom}
 use Rattle.code.specs.Tests.{Ascending}
 use Rattle.scans.specs.Rows.{RowLists, GoodRows}
-use Rattle.kept.specs.Kept.{Kept}
-use Rattle.guessing.specs.Guessing.{Weighed}
-use Rattle.turns.specs.Turns.{isGuessed}
+use Rattle.turns.specs.Turns.{KeptOver}
 use Rattle.machine.specs.declared.Word.{Word}
 use Rattle.machine.specs.declared.HalfReport.{HalfReport}
-use Rattle.machine.specs.Machine.{isOpen, Half}
+use Rattle.machine.specs.Machine.{Half}
 use Rattle.machine.specs.Words.{finished?}
 use Rattle.machine.specs.Report.{none?, outcome}
-use Rattle.machine.specs.Lists.{view, HalfLists, SameLengths, Past, Shows}
+use Rattle.machine.specs.Lists.{HalfLists, SameLengths, Past, Shows}
 use Rattle.halves.specs.Lists.{halfOf}
 use Rattle.starting.specs.Fills.{Filled}
 
@@ -59,6 +57,4 @@ pub record HalfDone (n : ℕ) (c : RowLists) (lost : List ℕ) (other others bud
   pub lengths : SameLengths old new
   pub past : Past n old new
   pub shows : RowsObey n c other others → let s = outcome (halfIn n c lost other others) budget limit in (r ≡ s .report) × Shows n s old new
-  pub kept : RowsObey n c other others → none? (outcome (halfIn n c lost other others) budget limit .report .word) ≡ false → Kept (isOpen (view n (new .marks))) c work
-  pub weights : RowsObey n c other others → none? (outcome (halfIn n c lost other others) budget limit .report .word) ≡ false
-      → (q : ℕ) → isGuessed n (new .marks) q ≡ true → Weighed (isOpen (view n (new .marks))) c work
+  pub kept : RowsObey n c other others → none? (outcome (halfIn n c lost other others) budget limit .report .word) ≡ false → KeptOver n c (new .marks) work

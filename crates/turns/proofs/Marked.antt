@@ -58,7 +58,7 @@ module _ (n : ℕ) (c : RowLists) (budget limit : ℕ) (old : Working) (forms₁
             subst (EndedAs n c now (record { word = None; turns = 0; live = 0 }))
             (sym (run-failed (rowChecks c) n (freest (rowChecks c) n) budget limit (suc limit) (record { mark = view n (old .marks); forms = blank; turns = 0 }))
             ∙ ap (run (rowChecks c) n (freest (rowChecks c) n) budget limit (suc limit)) (sym (begun b ∙ ap (λ (x : Bool). stage (view n (old .marks)) 0 (cond x none (some blank))) e)))
-            (record { word = refl; turns = refl; live = refl; marks = refl; forms = λ j. never refl j; kept = λ j. never refl j; weights = λ j. never refl j });
+            (record { word = refl; turns = refl; live = refl; marks = refl; forms = λ j. never refl j; kept = λ j. never refl j });
       }
 
   clear : formsOf n forms₁ ≡ (λ q k. false)
@@ -105,7 +105,6 @@ ran-half n c budget limit old new e r v told =
             marks = w .marks;
             forms = w .forms;
             kept = w .kept;
-            weights = w .weights;
           };
     }
 

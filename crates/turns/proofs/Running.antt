@@ -101,7 +101,7 @@ module _ (n : ℕ) (c : RowLists) (budget limit : ℕ) (old : Working) (begun : 
     ends v w e =
         subst (EndedAs n c l (record { word = w; turns = turns; live = live }))
         (sym (run-ends (rowChecks c) n rule budget limit (limit - turns) st w e) ∙ v .same)
-        (record { word = refl; turns = refl; live = refl; marks = refl; forms = λ i. refl; kept = λ i. v .ready .kept; weights = λ i. weights-at v })
+        (record { word = refl; turns = refl; live = refl; marks = refl; forms = λ i. refl; kept = λ i. record { rows = v .ready .kept; weights = weights-at v } })
 
     pub goes-finished : (r : Ended) → r ≡ record { word = finished live; turns = turns; live = live } → left ≡ 0 → RunEnds n c budget limit begun old l r
     goes-finished r i e =
@@ -168,7 +168,7 @@ module _ (n : ℕ) (c : RowLists) (budget limit : ℕ) (old : Working) (begun : 
                     subst (EndedAs n c l′ (record { word = None; turns = turns + 1; live = 0 }))
                     (sym (run-failed (rowChecks c) n rule budget limit (limit - turns) st′)
                     ∙ ap (run (rowChecks c) n rule budget limit (limit - turns)) (sym i) ∙ goes)
-                    (record { word = refl; turns = add-one turns ∙ w .2; live = sym (w .3); marks = w .1; forms = λ j. never refl j; kept = λ j. never refl j; weights = λ j. never refl j })
+                    (record { word = refl; turns = add-one turns ∙ w .2; live = sym (w .3); marks = w .1; forms = λ j. never refl j; kept = λ j. never refl j })
                 look (on st′) i w = let u : _≡_ {A = Bool} true false = cc in never refl u
 
             running-on : turns ≤ limit → (now : ℕ) → t ≡ Live now → Running l′ now keeps (turns + 1) (left - 1)

@@ -15,7 +15,6 @@ use lib.Dec.{leb}
 use lib.ListN.{length}
 use Rattle.scans.specs.Rows.{RowLists, rowChecks, GoodRows}
 use Rattle.kept.specs.Kept.{Kept, RowsOn}
-use Rattle.guessing.specs.Guessing.{Weighed}
 use Rattle.machine.specs.declared.HalfReport.{HalfReport}
 use Rattle.machine.specs.Machine.{Stage, End, isOpen, closed?, takeUpAll, blank, stage, freest, run}
 use Rattle.machine.specs.Report.{marked, none?, report}
@@ -23,7 +22,7 @@ use Rattle.machine.specs.Lists.{view, formsOf}
 use Rattle.turns.specs.declared.RunAnswer.{RunAnswer}
 use Rattle.turns.specs.declared.RunAnswer.the-variants.{Refused, Over}
 use Rattle.turns.specs.declared.Ended.{Ended}
-use Rattle.turns.specs.Turns.{Working, Stays, isGuessed, EndedAs}
+use Rattle.turns.specs.Turns.{Working, Stays, isGuessed, KeptOver, EndedAs}
 
 abbrev pub stageIn : ℕ → RowLists → List ℕ → Stage
 stageIn n c marks = stage (view n marks) 0 (takeUpAll (closed? (isOpen (view n marks))) (rowChecks c) blank)
@@ -54,14 +53,12 @@ reportBy n e marks = record {
 ----------------------------------------------------------------------
 -- The promise
 
--- Marks and forms are those of the end; after none, the forms are not told. At any end but none, what is kept of the rows is a fresh count over the marks, and so
--- are the weights where a qubit was guessed.
+-- Marks and forms are those of the end; after none, the forms are not told. At any end but none, what is kept is a fresh count over the marks.
 pub record Ran (n : ℕ) (c : RowLists) (new : Working) (r : HalfReport) (e : End) : Type 0 where
   pub report : r ≡ report n e
   pub marks : view n (new .marks) ≡ e .state .mark
   pub forms : none? (e .word) ≡ false → formsOf n (new .forms) ≡ e .state .forms .form
-  pub kept : none? (e .word) ≡ false → Kept (isOpen (view n (new .marks))) c (new .work)
-  pub weights : none? (e .word) ≡ false → (q : ℕ) → isGuessed n (new .marks) q ≡ true → Weighed (isOpen (view n (new .marks))) c (new .work)
+  pub kept : none? (e .word) ≡ false → KeptOver n c (new .marks) (new .work)
 
 pub record RanHalf (n : ℕ) (c : RowLists) (budget limit : ℕ) (old new : Working) (r : HalfReport) : Type 0 where
   pub stays : Stays n old new

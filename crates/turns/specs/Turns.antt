@@ -6,6 +6,7 @@
 --   Turned      the same, and elements past n as they were, whatever the lists hold
 --   WeighedOnce the weights counted, unless they are kept
 --   Guessed     a guess; Moved: a turn, or that the budget is spent
+--   KeptOver    what is kept is a fresh count over the marks
 --   EndedAs     the lists and the answer are the end of a half
 use mathlib.Core.Path.{_≡_}
 use mathlib.Core.Bool.{Bool, true, false, not, _&&_}
@@ -133,15 +134,19 @@ pub record Moved (n : ℕ) (c : RowLists) (budget live : ℕ) (weighed : Bool) (
 ----------------------------------------------------------------------
 -- The end
 
--- At any end but none, what is kept of the rows is a fresh count over the marks, and so are the weights where a qubit was guessed.
+-- What is kept is a fresh count over the marks: of the rows, and where a qubit was guessed the weights.
+pub record KeptOver (n : ℕ) (c : RowLists) (marks work : List ℕ) : Type 0 where
+  pub rows : Kept (isOpen (view n marks)) c work
+  pub weights : (q : ℕ) → isGuessed n marks q ≡ true → Weighed (isOpen (view n marks)) c work
+
+-- At any end but none, what is kept is a fresh count.
 pub record EndedAs (n : ℕ) (c : RowLists) (new : Working) (r : Ended) (e : End) : Type 0 where
   pub word : r .word ≡ e .word
   pub turns : r .turns ≡ e .state .turns
   pub live : r .live ≡ e .state .forms .live
   pub marks : view n (new .marks) ≡ e .state .mark
   pub forms : none? (e .word) ≡ false → formsOf n (new .forms) ≡ e .state .forms .form
-  pub kept : none? (e .word) ≡ false → Kept (isOpen (view n (new .marks))) c (new .work)
-  pub weights : none? (e .word) ≡ false → (q : ℕ) → isGuessed n (new .marks) q ≡ true → Weighed (isOpen (view n (new .marks))) c (new .work)
+  pub kept : none? (e .word) ≡ false → KeptOver n c (new .marks) (new .work)
 
 -- The half goes on from these lists, so many turns made, at most m more.
 unfoldable pub runFrom : ℕ → RowLists → ℕ → ℕ → ℕ → Working → ℕ → ℕ → End
