@@ -180,21 +180,6 @@ pub tally-none : (n : ℕ) (f : ℕ → Bool) → ((q : ℕ) → f q ≡ false) 
 tally-none zero f h = refl
 tally-none (suc n) f h = ap₂ count (h n) (tally-none n f h)
 
--- Two tests that differ at p alone.
-pub tally-up : (n p : ℕ) (f f′ : ℕ → Bool) → p < n → f p ≡ false → f′ p ≡ true → ((q : ℕ) → eqb p q ≡ false → f′ q ≡ f q)
-    → tally n f′ ≡ suc (tally n f)
-tally-up zero p f f′ l a b h = absurd (not-suc-le-zero l)
-tally-up (suc n) p f f′ l a b h =
-    ⊎-elim
-    (λ (e : p ≡ n). ap₂ count (subst (λ (q : ℕ). f′ q ≡ true) e b) (tally-same n f f′ (λ q i. h q (eqb-differ p q (λ j. absurd (omega arith)))))
-    ∙ ap suc (sym (ap (λ (x : Bool). count x (tally n f)) (subst (λ (q : ℕ). f q ≡ false) e a))))
-    (λ (e : p < n). ap₂ count (h n (eqb-differ p n (λ j. absurd (omega arith)))) (tally-up n p f f′ e a b h) ∙ slide (f n) (tally n f))
-    (eq-or-lt-of-le (le-of-suc-le-suc l))
-  where
-    slide : (x : Bool) (k : ℕ) → count x (suc k) ≡ suc (count x k)
-    slide true k = refl
-    slide false k = refl
-
 -- The first counted first.
 pub tally-first : (n : ℕ) (f : ℕ → Bool) → tally (suc n) f ≡ count (f 0) (tally n (λ q. f (suc q)))
 tally-first zero f = refl

@@ -4,3 +4,5 @@ pub mod Tests
 pub mod Classes
 pub mod Elimination
 pub mod WordBits
+pub mod Weights
+pub mod UpTo

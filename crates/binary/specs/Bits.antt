@@ -2,8 +2,9 @@
 --   _⊕_      the sum of two bits, modulo 2
 --   below    a test that passes at every number below n
 --   tally    how many numbers below n pass a test
-use mathlib.Core.Bool.{Bool, true, false, _&&_}
-use Prim.Native.Nat.{ℕ, zero, suc}
+--   weigh    the sum of the weights of those that do
+use mathlib.Core.Bool.{Bool, true, false, _&&_, cond}
+use Prim.Native.Nat.{ℕ, zero, suc, _+_}
 
 infixl 40 _⊕_
 abbrev pub _⊕_ : Bool → Bool → Bool
@@ -23,3 +24,7 @@ count false n = n
 abbrev pub tally : ℕ → (ℕ → Bool) → ℕ
 tally zero f = 0
 tally (suc n) f = count (f n) (tally n f)
+
+abbrev pub weigh : (ℕ → ℕ) → ℕ → (ℕ → Bool) → ℕ
+weigh f zero t = 0
+weigh f (suc n) t = cond (t n) (f n) 0 + weigh f n t

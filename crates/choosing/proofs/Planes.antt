@@ -7,9 +7,10 @@ use native.Mathlib.Nat.{pow-succ'}
 use native.Mathlib.Omega.{arith}
 use lib.Pow.{pow-mono}
 use Rattle.binary.proofs.Bits.{bit}
-use Rattle.columns.specs.Planes.{weigh, planes, number}
+use Rattle.binary.specs.Bits.{weigh}
+use Rattle.columns.specs.Planes.{planes, number}
 use Rattle.columns.proofs.Numbers.{number-at}
-use Rattle.columns.proofs.Weights.{weigh-same, weigh-none, bits-few}
+use Rattle.binary.proofs.Weights.{weigh-same, weigh-none, bits-few}
 
 -- The lowest bit apart.
 weigh-low : (n : ℕ) (t : ℕ → Bool) → weigh (λ p. 2 ^ p) (suc n) t ≡ 2 * weigh (λ p. 2 ^ p) n (λ p. t (suc p)) + cond (t 0) 1 0

@@ -7,7 +7,7 @@ use lib.ListN.{getD}
 use Rattle.binary.specs.Words.{bit}
 use Rattle.columns.specs.Planes.{planes, numberAt, number}
 use Rattle.columns.specs.Columns.{untaken}
-use Rattle.columns.proofs.Weights.{bits-few}
+use Rattle.binary.proofs.Weights.{bits-few}
 
 pub untaken-at : (m : List ℕ) (k b : ℕ) → b < 64 → untaken m (64 * k + b) ≡ bit (getD m (8448 + k) 0) b
 unfolding untaken

@@ -1,19 +1,15 @@
 -- Numbers in bit planes: bit p of 64 numbers in one word, the words of a number's bits one after the other.
---   weigh      the sum of the weights of those below n that pass a test
 --   planes     the bits of a number: plane p of those at a place, for bit b of the words
 --   numberAt   the number of the first e planes
 --   Carried    a number that grows by what comes in, or shrinks by it, less what goes on
 --   number     the number of a column in the work list: 16 words for 64 columns from element 8192 on, the first 10 of them planes
 use mathlib.Core.Path.{_≡_}
-use mathlib.Core.Bool.{Bool, true, false, cond}
+use mathlib.Core.Bool.{Bool, true, false}
 use mathlib.Core.List.{List}
-use Prim.Native.Nat.{ℕ, zero, suc, _+_, _*_, _/_, _%_, _^_}
+use Prim.Native.Nat.{ℕ, _+_, _*_, _/_, _%_, _^_}
 use lib.ListN.{getD}
+use Rattle.binary.specs.Bits.{weigh}
 use Rattle.binary.specs.Words.{bit}
-
-abbrev pub weigh : (ℕ → ℕ) → ℕ → (ℕ → Bool) → ℕ
-weigh f zero t = 0
-weigh f (suc n) t = cond (t n) (f n) 0 + weigh f n t
 
 unfoldable pub planes : List ℕ → ℕ → ℕ → ℕ → Bool
 planes m at b p = bit (getD m (at + p) 0) b

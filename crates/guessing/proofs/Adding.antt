@@ -1,6 +1,6 @@
 -- A share added at each qubit of a row, one by one. Assumes nothing.
 use mathlib.Core.Path.{_≡_, refl, _∙_, subst}
-use mathlib.Core.Bool.{false}
+use mathlib.Core.Bool.{Bool, true, false, cond}
 use mathlib.Core.List.{List, _∷_}
 use Prim.Native.Nat.{ℕ, _+_, _%_, _≤_, _<_}
 use native.Mathlib.Numerals.{add-one}
@@ -83,8 +83,13 @@ added-as n share row row′ work work′ e v = subst (λ (r : List ℕ). AddedRo
 ----------------------------------------------------------------------
 -- Shares are small
 
+one-of : (a b : Bool) (x y z : ℕ) → x < 4294967296 → y < 4294967296 → z < 4294967296 → cond a x (cond b y z) < 4294967296
+one-of true b x y z k l m = k
+one-of false true x y z k l m = l
+one-of false false x y z k l m = m
+
 pub share-small : (number share : ℕ) → share ≡ shareOf number → share < 4294967296
-share-small number share e = rw e (bit (eqb number 0) (λ u. rw u (omega arith)) (λ u. rw u (bit (eqb number 2) (λ w. rw w (omega arith)) (λ w. rw w (omega arith)))))
+share-small number share e = rw e (one-of (eqb number 0) (eqb number 2) 0 1025 1 (omega arith) (omega arith) (omega arith))
 
 pub change-small : (left share : ℕ) → share ≡ changeOf left → share < 4294967296
-change-small left share e = rw e (bit (eqb left 2) (λ u. rw u (omega arith)) (λ u. rw u (bit (eqb left 1) (λ w. rw w (omega arith)) (λ w. rw w (omega arith)))))
+change-small left share e = rw e (one-of (eqb left 2) (eqb left 1) 1024 4294966272 0 (omega arith) (omega arith) (omega arith))

@@ -1,18 +1,18 @@
 -- The weights after a qubit is settled: of the rows on it, each by the number of open qubits that are left. Assumes nothing.
 use mathlib.Core.Path.{_≡_, refl, sym, ap, _∙_, subst}
 use mathlib.Core.Bool.{Bool, true, false, _&&_, cond}
-use mathlib.Core.Logic.{⊎-elim}
 use mathlib.Core.List.{List}
 use Prim.Native.Nat.{ℕ, suc, _+_, _*_, _/_, _%_, _≤_, _<_}
 use native.Mathlib.Omega.{arith}
-use borrow.Author.Tests.{eqb-true, eqb-false, ne-eqb, lt-ltb, le-ltb}
-use lib.Dec.{eqb, ltb}
+use borrow.Author.Tests.{eqb-true, eqb-false, ne-eqb}
+use lib.Dec.{eqb}
 use lib.ListN.{length, getD}
 use Rattle.binary.specs.Bits.{tally}
 use Rattle.binary.specs.Words
 use Rattle.binary.specs.Meaning.{Qubits, Row, has}
-use Rattle.binary.proofs.Bits.{bit, never, tally-same, tally-up}
-use Rattle.binary.proofs.WordBits.{order}
+use Rattle.binary.proofs.Bits.{bit, never, tally-same}
+use Rattle.binary.proofs.Weights.{tally-change}
+use Rattle.binary.proofs.UpTo.{upTo, up-below, up-from, up-pass, up-on}
 use Rattle.bitsets.specs.Bitsets.{inSet, NextIn}
 use Rattle.code.specs.Lists.{rowAt}
 use Rattle.code.specs.Tests.{Ascending}
@@ -42,7 +42,7 @@ module _ (n : ℕ) (c : RowLists) (p : ℕ) (o : Qubits) (work₀ : List ℕ) (f
 
   -- The rows before row i are without the qubit.
   abbrev pub mixed : ℕ → ℕ → ℕ → Bool
-  mixed i q j = cond (ltb j i) (pairIn o′ c q j) (pairIn o c q j)
+  mixed i q = upTo i (pairIn o′ c q) (pairIn o c q)
 
   abbrev pub mixedWeight : ℕ → ℕ → ℕ
   mixedWeight i q = 1024 * tally (c .count) (mixed i q) + tally (c .count) (hasIn c q)
@@ -50,25 +50,19 @@ module _ (n : ℕ) (c : RowLists) (p : ℕ) (o : Qubits) (work₀ : List ℕ) (f
   pub mixed-start : (q : ℕ) → o q ≡ true → weightOf work₀ q ≡ mixedWeight 0 q
   mixed-start q t =
       g .weighed .weights q t ∙ weight-tally o c q
-      ∙ ap (λ (x : ℕ). 1024 * x + tally (c .count) (hasIn c q)) (tally-same (c .count) (mixed 0 q) (pairIn o c q) (λ j l. rw (le-ltb j 0 (omega arith))))
+      ∙ ap (λ (x : ℕ). 1024 * x + tally (c .count) (hasIn c q)) (tally-same (c .count) (mixed 0 q) (pairIn o c q) (λ j l. sym (up-from (pairIn o′ c q) (pairIn o c q) 0 j (omega arith))))
 
   pub mixed-end : (i q : ℕ) → c .count ≤ i → mixedWeight i q ≡ 1024 * tally (c .count) (pairIn o′ c q) + tally (c .count) (hasIn c q)
-  mixed-end i q h = ap (λ (x : ℕ). 1024 * x + tally (c .count) (hasIn c q)) (tally-same (c .count) (pairIn o′ c q) (mixed i q) (λ j l. rw (lt-ltb j i (omega arith))))
+  mixed-end i q h = ap (λ (x : ℕ). 1024 * x + tally (c .count) (hasIn c q)) (tally-same (c .count) (pairIn o′ c q) (mixed i q) (λ j l. up-below (pairIn o′ c q) (pairIn o c q) i j (omega arith)))
 
   -- Rows that are not on the qubit are passed over.
   pub mixed-pass : (i i′ q : ℕ) → i ≤ i′ → i′ ≤ c .count → ((j : ℕ) → i ≤ j → j < i′ → inSet work₀ p j ≡ false) → mixedWeight i q ≡ mixedWeight i′ q
-  mixed-pass i i′ q a b none-on = ap (λ (x : ℕ). 1024 * x + tally (c .count) (hasIn c q)) (tally-same (c .count) (mixed i′ q) (mixed i q) same)
+  mixed-pass i i′ q a b none-on = ap (λ (x : ℕ). 1024 * x + tally (c .count) (hasIn c q)) (tally-same (c .count) (mixed i′ q) (mixed i q) (λ j l. up-pass (pairIn o′ c q) (pairIn o c q) i i′ a off j))
     where
       off : (j : ℕ) → i ≤ j → j < i′ → pairIn o′ c q j ≡ pairIn o c q j
       off j l m =
           let gone = sym (g .on .on p j (g .open-p) (omega arith)) ∙ none-on j l m in
           ap (λ (x : List ℕ). eqb (length x) 2 && has (rowIn c j) q) (not-has o p (rowIn c j) gone)
-
-      same : (j : ℕ) → j < c .count → mixed i q j ≡ mixed i′ q j
-      same j h =
-          ⊎-elim (λ (l : j < i). rw (lt-ltb j i l, lt-ltb j i′ (omega arith)))
-          (λ (l : i ≤ j). ⊎-elim (λ (m : j < i′). rw (le-ltb j i l, lt-ltb j i′ m) (sym (off j l m)))
-          (λ (m : i′ ≤ j). rw (le-ltb j i l, le-ltb j i′ m)) (order j i′)) (order j i)
 
   -- Row i, which is on the qubit.
   module _ (i : ℕ) (h : i < c .count) (found : inSet work₀ p i ≡ true) (left : ℕ) (is : left ≡ openIn o′ c i) (q x : ℕ) (e : x ≡ mixedWeight i q) where
@@ -84,18 +78,6 @@ module _ (n : ℕ) (c : RowLists) (p : ℕ) (o : Qubits) (work₀ : List ℕ) (f
         ap (λ (r : Row). length (part o r)) row-is ∙ one-less o p (here c i .row) d (g .open-p) (on-it .1)
         ∙ ap suc (sym (is ∙ ap (λ (r : Row). length (part o′ r)) row-is))
 
-    after : (j : ℕ) → i ≤ j → (i ≡ j → ⊥) → i + 1 ≤ j
-    after j m d = ⊎-elim (λ (l : j < i + 1). absurd (d (omega arith))) (λ (l : i + 1 ≤ j). l) (order j (i + 1))
-
-    others : (j : ℕ) → eqb i j ≡ false → mixed (i + 1) q j ≡ mixed i q j
-    others j d = ⊎-elim (λ (m : j < i). rw (lt-ltb j i m, lt-ltb j (i + 1) (omega arith))) (λ (m : i ≤ j). rw (le-ltb j i m, le-ltb j (i + 1) (after j m (eqb-false i j d)))) (order j i)
-
-    before-it : mixed i q i ≡ (eqb (suc left) 2 && has (here c i .row) q)
-    before-it = rw (le-ltb i i (omega arith)) (rw (was, row-is))
-
-    after-it : mixed (i + 1) q i ≡ (eqb left 2 && has (here c i .row) q)
-    after-it = rw (lt-ltb i (i + 1) (omega arith)) (rw (← is, row-is))
-
     abbrev A : ℕ
     A = tally (c .count) (mixed i q)
 
@@ -105,46 +87,49 @@ module _ (n : ℕ) (c : RowLists) (p : ℕ) (o : Qubits) (work₀ : List ℕ) (f
     abbrev B : ℕ
     B = tally (c .count) (hasIn c q)
 
-    same : mixed (i + 1) q i ≡ mixed i q i → A′ ≡ A
-    same w = tally-same (c .count) (mixed i q) (mixed (i + 1) q) (λ j l. bit (eqb i j) (λ u. subst (λ (k : ℕ). mixed (i + 1) q k ≡ mixed i q k) (eqb-true i j u) w) (others j))
+    before-it : mixed i q i ≡ (eqb (suc left) 2 && has (here c i .row) q)
+    before-it = up-from (pairIn o′ c q) (pairIn o c q) i i (omega arith) ∙ rw (was, row-is)
+
+    after-it : mixed (i + 1) q i ≡ (eqb left 2 && has (here c i .row) q)
+    after-it = up-below (pairIn o′ c q) (pairIn o c q) (i + 1) i (omega arith) ∙ rw (← is, row-is)
+
+    -- The row was counted as one with two open qubits, or is.
+    changed : A′ + cond (eqb (suc left) 2 && has (here c i .row) q) 1 0 ≡ A + cond (eqb left 2 && has (here c i .row) q) 1 0
+    changed =
+        let z = tally-change (c .count) i (mixed i q) (mixed (i + 1) q) h (λ j d l. up-on (pairIn o′ c q) (pairIn o c q) i j (ne-eqb i j (λ u. d (sym u)))) in
+        rw (← before-it, ← after-it) z
 
     small : x < 1048576
     small = let z = weight-small o c q (c .count) (c .count) few few (mixed i q) in omega arith
 
     pub mixed-row : addedAt (changeOf left) (has (here c i .row) q) x ≡ mixedWeight (i + 1) q
-    mixed-row =
-        bit (has (here c i .row) q) (λ u. holds u)
-        (λ u. rw u (let z = same (after-it ∙ rw u (none (eqb left 2) (eqb (suc left) 2)) ∙ sym before-it) in omega arith))
+    mixed-row = by (has (here c i .row) q) A′ changed
       where
-        none : (a b : Bool) → (a && false) ≡ (b && false)
-        none true true = refl
-        none true false = refl
-        none false true = refl
-        none false false = refl
+        none : (b : Bool) → cond {A = ℕ} (b && false) 1 0 ≡ 0
+        none true = refl
+        none false = refl
 
-        comes : (k : ℕ) → k ≡ suc A → (x + 1024) % 4294967296 ≡ 1024 * k + B
-        comes k z = let l = small in omega arith
-
-        goes : (k : ℕ) → A ≡ suc k → (x + 4294966272) % 4294967296 ≡ 1024 * k + B
-        goes k z = let l = small in omega arith
-
-        stays : (k : ℕ) → k ≡ A → (x + 0) % 4294967296 ≡ 1024 * k + B
-        stays k z = let l = small in omega arith
-
-        holds : has (here c i .row) q ≡ true → addedAt (changeOf left) (has (here c i .row) q) x ≡ mixedWeight (i + 1) q
-        holds u =
+        by : (b : Bool) (k : ℕ) → k + cond (eqb (suc left) 2 && b) 1 0 ≡ A + cond (eqb left 2 && b) 1 0 → addedAt (changeOf left) b x ≡ 1024 * k + B
+        by false k z = let y = rw (none (eqb (suc left) 2), none (eqb left 2)) at z in omega arith
+        by true k z =
             bit (eqb left 2)
-            (λ two. let m = eqb-true left 2 two in
-            let up : A′ ≡ suc A = tally-up (c .count) i (mixed i q) (mixed (i + 1) q) h (before-it ∙ rw m) (after-it ∙ rw (m, u)) others in
-            rw (u, m) (comes A′ up))
+            (λ two. let m = eqb-true left 2 two in let y : k + 0 ≡ A + 1 = subst (λ (n : ℕ). k + cond (eqb (suc n) 2 && true) 1 0 ≡ A + cond (eqb n 2 && true) 1 0) m z in
+            rw m (comes k y))
             (λ more. bit (eqb left 1)
-            (λ one. let m = eqb-true left 1 one in
-            let down : A ≡ suc A′ = tally-up (c .count) i (mixed (i + 1) q) (mixed i q) h (after-it ∙ rw m) (before-it ∙ rw (m, u)) (λ j d. sym (others j d)) in
-            rw (u, m) (goes A′ down))
+            (λ one. let m = eqb-true left 1 one in let y : k + 1 ≡ A + 0 = subst (λ (n : ℕ). k + cond (eqb (suc n) 2 && true) 1 0 ≡ A + cond (eqb n 2 && true) 1 0) m z in
+            rw m (goes k y))
             (λ other.
             let past : eqb (suc left) 2 ≡ false = ne-eqb (suc left) 2 (λ j. eqb-false left 1 other (omega arith)) in
-            let z = same (after-it ∙ ap (_&& has (here c i .row) q) more ∙ sym (before-it ∙ ap (_&& has (here c i .row) q) past)) in
-            rw (u, more, other) (stays A′ z)))
+            rw (more, other) (stays k (rw (past, more) at z))))
+          where
+            comes : (k : ℕ) → k + 0 ≡ A + 1 → (x + 1024) % 4294967296 ≡ 1024 * k + B
+            comes k y = let l = small in omega arith
+
+            goes : (k : ℕ) → k + 1 ≡ A + 0 → (x + 4294966272) % 4294967296 ≡ 1024 * k + B
+            goes k y = let l = small in omega arith
+
+            stays : (k : ℕ) → k + 0 ≡ A + 0 → (x + 0) % 4294967296 ≡ 1024 * k + B
+            stays k y = let l = small in omega arith
 
 ----------------------------------------------------------------------
 -- The loop

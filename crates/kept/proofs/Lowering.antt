@@ -1,17 +1,16 @@
 -- The rows on a qubit that is open no more: each has an open qubit less. Assumes nothing.
 use mathlib.Core.Path.{_≡_, refl, sym, ap, _∙_, subst}
 use mathlib.Core.Bool.{Bool, true, false, cond}
-use mathlib.Core.Logic.{⊎-elim}
 use mathlib.Core.List.{List, [], _∷_}
 use Prim.Native.Nat.{ℕ, suc, _+_, _*_, _/_, _%_, _≤_, _<_}
 use native.Mathlib.Omega.{arith}
-use lib.Dec.{eqb, ltb}
+use lib.Dec.{eqb}
 use lib.ListN.{length, getD}
-use borrow.Author.Tests.{eq-eqb, ne-eqb, eqb-true, eqb-false, lt-ltb, le-ltb}
+use borrow.Author.Tests.{eq-eqb, ne-eqb, eqb-true, eqb-false}
 use Rattle.binary.specs.Words
 use Rattle.binary.specs.Meaning.{Qubits, Row, has}
 use Rattle.binary.proofs.Bits.{bit, never, or-out}
-use Rattle.binary.proofs.WordBits.{order}
+use Rattle.binary.proofs.UpTo.{upTo, up-below, up-from, up-pass, up-on}
 use Rattle.bitsets.specs.Bitsets.{inSet, NextIn}
 use Rattle.code.specs.Lists.{rowAt}
 use Rattle.code.specs.Tests.{Ascending}
@@ -64,7 +63,7 @@ has-none false row p e = never e refl
 
 -- With the qubits o open before; the rows before row i are done.
 pub record Lowering (c : RowLists) (p : ℕ) (o : Qubits) (i : ℕ) (work : List ℕ) : Type 0 where
-  pub counts : (j : ℕ) → j < c .count → getD work (8704 + j) 0 ≡ cond (ltb j i) (openIn (put p false o) c j) (openIn o c j)
+  pub counts : (j : ℕ) → j < c .count → getD work (8704 + j) 0 ≡ upTo i (openIn (put p false o) c) (openIn o c) j
   pub tallied : Tallied (c .count) work
 
 -- What is known of the list at the start of the loop.
@@ -92,19 +91,13 @@ module _ (n : ℕ) (c : RowLists) (p : ℕ) (o : Qubits) (work₀ : List ℕ) (s
   -- Rows that are not on the qubit are passed over.
   pub lowering-pass : (i i′ : ℕ) (work : List ℕ) → Rows work → Lowering c p o i work → i ≤ i′ → i′ ≤ c .count
       → ((j : ℕ) → i ≤ j → j < i′ → inSet work p j ≡ false) → Lowering c p o i′ work
-  lowering-pass i i′ work same s a b none-on = record { counts = λ j h. s .counts j h ∙ grown j h; tallied = s .tallied }
+  lowering-pass i i′ work same s a b none-on = record { counts = λ j h. s .counts j h ∙ up-pass (openIn o′ c) (openIn o c) i i′ a kept j; tallied = s .tallied }
     where
-      off : (j : ℕ) → i ≤ j → j < i′ → has (rowIn c j) p ≡ false
-      off j l m = sym (on-row work same j (omega arith)) ∙ none-on j l m
-
-      grown : (j : ℕ) → j < c .count → cond (ltb j i) (openIn o′ c j) (openIn o c j) ≡ cond (ltb j i′) (openIn o′ c j) (openIn o c j)
-      grown j h =
-          ⊎-elim (λ (l : j < i). rw (lt-ltb j i l, lt-ltb j i′ (omega arith)))
-          (λ (l : i ≤ j). ⊎-elim (λ (m : j < i′). rw (le-ltb j i l, lt-ltb j i′ m) (sym (ap length (not-has o p (rowIn c j) (off j l m)))))
-          (λ (m : i′ ≤ j). rw (le-ltb j i l, le-ltb j i′ m)) (order j i′)) (order j i)
+      kept : (j : ℕ) → i ≤ j → j < i′ → openIn o′ c j ≡ openIn o c j
+      kept j l m = ap length (not-has o p (rowIn c j) (sym (on-row work same j (omega arith)) ∙ none-on j l m))
 
   pub lowering-none : Lowering c p o 0 work₀
-  lowering-none = record { counts = λ j h. rw (le-ltb j 0 (omega arith)) (g .kept .counts j h); tallied = tallied-by o c work₀ (g .kept) }
+  lowering-none = record { counts = λ j h. g .kept .counts j h ∙ sym (up-from (openIn o′ c) (openIn o c) 0 j (omega arith)); tallied = tallied-by o c work₀ (g .kept) }
 
   pub lowering-start : (i : ℕ) → NextIn work₀ p 0 (c .count) i → Lowering c p o i work₀
   lowering-start i f = let w = f .within (omega arith) in lowering-pass 0 i work₀ (λ k h. refl) lowering-none (omega arith) (w .1) (f .skipped)
@@ -119,7 +112,7 @@ module _ (n : ℕ) (c : RowLists) (p : ℕ) (o : Qubits) (work₀ : List ℕ) (s
     row-is = rw (on-it .0)
 
     was-open : getD work (8704 + i) 0 ≡ suc (length (part o′ (here c i .row)))
-    was-open = s .counts i h ∙ rw (le-ltb i i (omega arith), row-is) (one-less o p (here c i .row) (own i h) (g .open-p) (on-it .1))
+    was-open = s .counts i h ∙ up-from (openIn o′ c) (openIn o c) i i (omega arith) ∙ rw row-is (one-less o p (here c i .row) (own i h) (g .open-p) (on-it .1))
 
     lowered : (number + 1 ≡ getD work (8704 + i) 0) × ((j : ℕ) → j < 512 → getD work′ (8704 + j) 0 ≡ cond (eqb i j) number (getD work (8704 + j) 0))
     lowered = low .counts long (omega arith) (let z = was-open in omega arith)
@@ -133,21 +126,17 @@ module _ (n : ℕ) (c : RowLists) (p : ℕ) (o : Qubits) (work₀ : List ℕ) (s
     pub lowering-row : Lowering c p o (i + 1) work′
     lowering-row = record { counts = counts-on; tallied = low .tallied long (omega arith) (let z = was-open in omega arith) (c .count) few h (s .tallied) }
       where
-        after : (j : ℕ) → i ≤ j → (i ≡ j → ⊥) → i + 1 ≤ j
-        after j m d = ⊎-elim (λ (l : j < i + 1). absurd (d (omega arith))) (λ (l : i + 1 ≤ j). l) (order j (i + 1))
-
-        counts-on : (j : ℕ) → j < c .count → getD work′ (8704 + j) 0 ≡ cond (ltb j (i + 1)) (openIn o′ c j) (openIn o c j)
+        counts-on : (j : ℕ) → j < c .count → getD work′ (8704 + j) 0 ≡ upTo (i + 1) (openIn o′ c) (openIn o c) j
         counts-on j l =
             lowered .1 j (omega arith) ∙ bit (eqb i j)
-            (λ e. let d = eqb-true i j e in rw (e, ← d, lt-ltb i (i + 1) (omega arith), row-is) number-is)
-            (λ e. rw e (s .counts j l ∙ ⊎-elim (λ (m : j < i). rw (lt-ltb j i m, lt-ltb j (i + 1) (omega arith)))
-            (λ (m : i ≤ j). rw (le-ltb j i m, le-ltb j (i + 1) (after j m (eqb-false i j e)))) (order j i)))
+            (λ e. let d = eqb-true i j e in rw (e, ← d) (number-is ∙ ap (λ (r : Row). length (part o′ r)) (sym row-is) ∙ sym (up-below (openIn o′ c) (openIn o c) (i + 1) i (omega arith))))
+            (λ e. rw e (s .counts j l ∙ sym (up-on (openIn o′ c) (openIn o c) i j e)))
 
     pub lowering-next : (i′ : ℕ) → NextIn work′ p (i + 1) (c .count) i′ → Lowering c p o i′ work′
     lowering-next i′ f = let w = f .within (omega arith) in lowering-pass (i + 1) i′ work′ rows-on lowering-row (w .0) (w .1) (f .skipped)
 
   pub lowering-end : (i : ℕ) (work : List ℕ) → Lowering c p o i work → c .count ≤ i → Kept o′ c work
-  lowering-end i work s h = kept-by o′ c work (λ j l. s .counts j l ∙ rw (lt-ltb j i (omega arith))) (s .tallied)
+  lowering-end i work s h = kept-by o′ c work (λ j l. s .counts j l ∙ up-below (openIn o′ c) (openIn o c) i j (omega arith)) (s .tallied)
 
 ----------------------------------------------------------------------
 -- The loop

@@ -10,7 +10,8 @@ use lib.Seq.{getD-set-same, getD-set-other}
 use borrow.Author.Tests.{eq-eqb, ne-eqb, eqb-true, eqb-false, lt-ltb, le-ltb}
 use Rattle.binary.specs.Bits.{_⊕_, tally}
 use Rattle.binary.specs.Words
-use Rattle.binary.proofs.Bits.{bit, ⊕-false, not-out, below-out, tally-same, tally-up, tally-few, none-counted}
+use Rattle.binary.proofs.Bits.{bit, ⊕-false, not-out, below-out, tally-same, tally-few, none-counted}
+use Rattle.binary.proofs.Weights.{tally-up}
 use Rattle.bitsets.specs.Bitsets.{inSet, NextIn, Flipped}
 use Rattle.kept.specs.Kept.{single?, Tallied, Changed, Changes, Lowered, Lowest, dangles?}
 

@@ -9,7 +9,8 @@ use native.Mathlib.Omega.{arith}
 use lib.Dec.{eqb}
 use Rattle.binary.specs.Bits.{_⊕_, tally}
 use Rattle.binary.specs.Meaning.{Qubits, Check}
-use Rattle.binary.proofs.Bits.{bit, never, eqb-eq, eq-eqb, and-out, tally-same, tally-none, tally-up}
+use Rattle.binary.proofs.Bits.{bit, never, eqb-eq, eq-eqb, and-out, tally-same, tally-none}
+use Rattle.binary.proofs.Weights.{tally-up}
 use Rattle.machine.specs.Machine.{Form, Forms, blank, State, Stage, on, failed, put, isOpen, isSettled, closed?, without, newest, side, takeAt, takeIf, takeUpAll, bind, closing, stage, startMark, start, settle, turn}
 use Rattle.machine.specs.Report.{marked}
 use Rattle.machine.proofs.Settling.{part-open}

@@ -115,6 +115,7 @@ UnreadBenchLaw = map comes unreadBench ≡ map listed unreadBench
 ----------------------------------------------------------------------
 -- The guess rule
 
+-- Of six qubits: rows, those that are unread, the qubits that are still open, and the one that is named.
 pub record Guess : Type 0 where
   pub rows : List Row
   pub unread : List ℕ

@@ -14,7 +14,7 @@ use Rattle.binary.specs.Bits.{_⊕_}
 use Rattle.binary.specs.Words.{bit}
 use Rattle.binary.proofs.WordBits.{bit-xor, bit-and, bit-zero}
 use Rattle.columns.specs.Planes.{planes, numberAt, Carried}
-use Rattle.columns.proofs.Weights.{weigh-change}
+use Rattle.binary.proofs.Weights.{weigh-change}
 use Rattle.columns.proofs.Numbers.{number-at}
 use Rattle.numbering.specs.Numbering.{Rippled, Counted}
 

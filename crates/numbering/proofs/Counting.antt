@@ -18,7 +18,7 @@ use Rattle.packing.specs.Packed.{cell}
 use Rattle.packing.proofs.Rows.{apart, few-words}
 use Rattle.columns.specs.Planes.{planes, Carried, number}
 use Rattle.columns.specs.Columns.{untaken}
-use Rattle.columns.proofs.Weights.{weigh-same}
+use Rattle.binary.proofs.Weights.{weigh-same}
 use Rattle.columns.proofs.Numbers.{untaken-at}
 use Rattle.numbering.specs.Numbering.{Counted, Stays, inside?, RowsIn, Added, Adds, NumberedRow}
 

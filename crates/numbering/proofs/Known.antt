@@ -16,7 +16,7 @@ use Rattle.binary.proofs.WordBits.{order, bit-set, bit-zero}
 use Rattle.lists.specs.Cleared.{Cleared}
 use Rattle.columns.specs.Planes.{planes}
 use Rattle.columns.specs.Columns.{untaken}
-use Rattle.columns.proofs.Weights.{weigh-none}
+use Rattle.binary.proofs.Weights.{weigh-none}
 use Rattle.numbering.specs.Numbering.{KnownWord, KnownSet, NumberedRows, startable?, Starts}
 
 module _ (n k : ℕ) (lost : List ℕ) where

@@ -15,7 +15,7 @@ use Rattle.packing.specs.Packed.{cell}
 use Rattle.packing.proofs.Rows.{beside}
 use Rattle.columns.specs.Planes.{Carried, number}
 use Rattle.columns.specs.Columns.{untaken, rowsWith, Numbered}
-use Rattle.columns.proofs.Weights.{count-plus, tally-change}
+use Rattle.binary.proofs.Weights.{count-plus, tally-change}
 use Rattle.columns.proofs.Numbers.{number-few}
 use Rattle.numbering.specs.Numbering.{Stays, Added, NumberedRow, NumberedRows}
 use Rattle.numbering.proofs.Counting.{row-ends}

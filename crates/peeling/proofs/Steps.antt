@@ -10,7 +10,8 @@ use lib.ListN.{length, getD, set, length-set}
 use borrow.Author.Tests.{leb-true, le-leb, not-false}
 use Rattle.binary.specs.Bits.{below}
 use Rattle.binary.specs.Meaning.{Qubits, Check}
-use Rattle.binary.proofs.Bits.{bit, never, and-out, not-out, not-in, eq-eqb, eqb-eq, below-out, below-in, tally-up, tally-few, none-counted}
+use Rattle.binary.proofs.Bits.{bit, never, and-out, not-out, not-in, eq-eqb, eqb-eq, below-out, below-in, tally-few, none-counted}
+use Rattle.binary.proofs.Weights.{tally-up}
 use Rattle.machine.specs.Machine.{put, isOpen, dangling}
 use Rattle.machine.specs.Report.{marked}
 use Rattle.machine.specs.Lists.{view}

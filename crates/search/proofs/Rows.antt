@@ -19,9 +19,9 @@ use Rattle.columns.specs.Columns.{untaken, rowsWith, Numbered}
 use Rattle.numbering.specs.Numbering.{Added, Adds}
 use Rattle.search.specs.Route.{former}
 use Rattle.search.specs.Search.{First, Later, Clears}
-use Rattle.binary.proofs.Bits.{⊕-false, ⊕-self, &&-false, never, and-in, or-left, not-out, tally-same, tally-up, none-counted, below-out}
+use Rattle.binary.proofs.Bits.{⊕-false, ⊕-self, &&-false, never, and-in, or-left, not-out, tally-same, none-counted, below-out}
 use Rattle.binary.proofs.WordBits.{order}
-use Rattle.columns.proofs.Weights.{tally-change}
+use Rattle.binary.proofs.Weights.{tally-change, tally-up}
 use Rattle.numbering.proofs.Counting.{row-ends, number-same, inside-in}
 use Rattle.numbering.proofs.Numbered.{added-other, numbered-added, untaken-same}
 

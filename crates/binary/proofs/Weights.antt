@@ -1,13 +1,13 @@
--- Laws of sums of weights. Assumes nothing.
-use mathlib.Core.Path.{_≡_, refl, ap, ap₂}
+-- Laws of sums of weights, and of tallies, which are such sums. Assumes nothing.
+use mathlib.Core.Path.{_≡_, refl, sym, ap, ap₂}
 use mathlib.Core.Bool.{Bool, true, false, cond}
 use mathlib.Core.Logic.{⊎-elim}
 use Prim.Native.Nat.{ℕ, zero, suc, _+_, _^_, _<_}
 use native.Mathlib.Nat.{not-suc-le-zero, le-of-suc-le-suc, eq-or-lt-of-le, pow-succ'}
 use native.Mathlib.Omega.{arith}
-use Rattle.binary.specs.Bits.{count, tally}
-use Rattle.binary.proofs.Bits.{bit}
-use Rattle.columns.specs.Planes.{weigh}
+use lib.Dec.{eqb}
+use Rattle.binary.specs.Bits.{count, tally, weigh}
+use Rattle.binary.proofs.Bits.{bit, eqb-differ}
 
 pub weigh-same : (f : ℕ → ℕ) (n : ℕ) (t t′ : ℕ → Bool) → ((p : ℕ) → p < n → t′ p ≡ t p) → weigh f n t′ ≡ weigh f n t
 weigh-same f zero t t′ h = refl
@@ -42,6 +42,10 @@ tally-weigh (suc n) f = let rest = tally-weigh n f in rw (count-plus (f n) (tall
 
 pub tally-change : (n p : ℕ) (f f′ : ℕ → Bool) → p < n → ((q : ℕ) → (q ≡ p → ⊥) → q < n → f′ q ≡ f q) → tally n f′ + cond (f p) 1 0 ≡ tally n f + cond (f′ p) 1 0
 tally-change n p f f′ l h = rw (tally-weigh n f, tally-weigh n f′) (weigh-change (λ q. 1) n p f f′ l h)
+
+-- One more passes.
+pub tally-up : (n p : ℕ) (f f′ : ℕ → Bool) → p < n → f p ≡ false → f′ p ≡ true → ((q : ℕ) → eqb p q ≡ false → f′ q ≡ f q) → tally n f′ ≡ suc (tally n f)
+tally-up n p f f′ l a b h = let z = rw (a, b) at (tally-change n p f f′ l (λ q d k. h q (eqb-differ p q (λ j. d (sym j))))) in omega (arith, z)
 
 -- A number of so many bits.
 pub bits-few : (n : ℕ) (t : ℕ → Bool) → weigh (λ p. 2 ^ p) n t < 2 ^ n
