@@ -3,16 +3,17 @@ use mathlib.Core.Path.{_≡_, refl, sym, ap, _∙_}
 use mathlib.Core.Bool.{Bool, true, false, _&&_, _||_}
 use mathlib.Core.Logic.{_⊎_, inl, inr, ⊎-elim}
 use Prim.Native.Nat.{ℕ, zero, suc, _+_, _-_, _*_, _/_, _%_, _^_, _≤_, _<_}
-use native.Mathlib.Nat.{eq-zero-or-pos, lt-of-lt-of-le, div-eq-of-lt, div-self, zero-div, mod-self, one-mul}
+use native.Mathlib.Nat.{eq-zero-or-pos, lt-of-lt-of-le, div-eq-of-lt, div-eq-of-lt-le, div-self, zero-div, mod-self, one-mul, pow-succ'}
 use native.Mathlib.Decide.{decLt, ℕ-discrete}
 use native.Mathlib.Omega.{arith}
 use borrow.Author.Tests.{eq-eqb, ne-eqb, eqb-true}
+use lib.Count.{leading-top}
 use lib.Dec.{eqb, lit<, eqb·suc-zero}
 use lib.Pow.{pow-pos, pow-lt, pow-mono, shr-shr, field, mod-mod-pow, shl-exact}
 use lib.Bits.{bitAnd, bitOr, bitXor, and-shr, and-mod, or-shr, or-mod, xor-shr, xor-mod}
 use Rattle.binary.specs.Bits.{_⊕_}
 use Rattle.binary.specs.Words.{bit}
-use Rattle.binary.proofs.Bits.{iff-eq}
+use Rattle.binary.proofs.Bits.{iff-eq, never}
 
 pub order : (a b : ℕ) → (a < b) ⊎ (b ≤ a)
 order a b = go (decLt a b)
@@ -111,3 +112,18 @@ same-digit q c e =
     iff-eq (eqb (q % 64) (c % 64)) (eqb q c)
     (λ t. let d : q % 64 ≡ c % 64 = eqb-true (q % 64) (c % 64) t in eq-eqb q c (omega arith))
     (λ t. let d : q ≡ c = eqb-true q c t in eq-eqb (q % 64) (c % 64) (omega arith))
+
+----------------------------------------------------------------------
+-- The highest bit
+
+pub top-set : (n k : ℕ) → 2 ^ k ≤ n → n < 2 ^ suc k → bit n k ≡ true
+unfolding bit
+top-set n k l h =
+    let e : n / 2 ^ k ≡ 1 = div-eq-of-lt-le (2 ^ k) (rw one-mul l) (rw (← pow-succ' 2 k) h) in
+    ap (λ (x : ℕ). eqb (x % 2) 1) e
+
+-- A word without bits is 0.
+pub bits-none : (word : ℕ) → word < 2 ^ 64 → ((k : ℕ) → bit word k ≡ false) → word ≡ 0
+bits-none word fits none =
+    ⊎-elim (λ (e : word ≡ 0). e)
+    (λ (p : 0 < word). let t = leading-top 64 word p fits in never (top-set word (t .0) (t .2) (t .3)) (none (t .0))) (eq-zero-or-pos word)

@@ -1,190 +1,152 @@
--- The forms as lists of words: a row's side, a guess replaced in a list, a row taken up. Assumes nothing.
-use mathlib.Core.Path.{_≡_, refl, sym, ap, _∙_, fun-ext, subst}
+-- The words of forms and of sides, and the forms that they make. Assumes nothing.
+use mathlib.Core.Path.{_≡_, refl, sym, ap, ap₂, _∙_, fun-ext}
 use mathlib.Core.Bool.{Bool, true, false, cond, _&&_}
 use mathlib.Core.Logic.{⊎-elim}
 use mathlib.Core.List.{List}
-use Prim.Native.Nat.{ℕ, zero, suc, _+_, _-_, _/_, _^_, _≤_, _<_}
-use native.Mathlib.Nat.{not-suc-le-zero}
-use native.Mathlib.Omega.{arith}
+use Prim.Native.Nat.{ℕ, suc, _+_, _*_, _/_, _%_, _^_, _≤_, _<_}
 use native.Mathlib.Numerals.{add-one}
+use native.Mathlib.Omega.{arith}
 use borrow.Author.Tests.{lt-ltb, le-ltb}
-use lib.Dec.{eqb, eqb·suc-zero}
+use lib.Dec.{eqb, ltb}
 use lib.Bits.{bitXor}
-use lib.ListN.{length, getD, set, drop, drop-of-length-le, length-set}
-use lib.Seq.{drop-cons, getD-set-same, getD-set-other, set-getD}
+use lib.ListN.{length, getD, drop, drop-of-length-le}
+use lib.Seq.{drop-cons}
 use Rattle.binary.specs.Bits.{_⊕_}
 use Rattle.binary.specs.Meaning.{Row, Check, odd}
 use Rattle.binary.specs.Words.{bit}
-use Rattle.binary.proofs.Bits.{⊕-false, ⊕-assoc, &&-false, never}
-use Rattle.forms.specs.declared.Taken.the-variants.{Failed, Live}
-use Rattle.machine.specs.Machine.{Form, side, newest, without, replace, takeAt, takeUp, oneLess}
-use Rattle.machine.specs.Lists.{view, formsOf}
-use Rattle.forms.specs.Forms.{withLive, Topped, TookUp, TakesUp}
-use Rattle.forms.specs.Sides.{check, IsSide, Newest, Replaced}
-use Rattle.machine.proofs.Settling.{side-top}
-use Rattle.machine.proofs.TakingUp.{newest-is, without-below, without-above}
-use Rattle.forms.proofs.FormBits.{replaced-low}
-use Rattle.binary.proofs.WordBits.{order, bit-xor, bit-zero, bit-one}
-
-pub view-in : (n : ℕ) (l : List ℕ) (q : ℕ) → q < n → view n l q ≡ getD l q 0
-view-in n l q h = rw (lt-ltb q n h)
-
-pub view-out : (n : ℕ) (l : List ℕ) (q : ℕ) → n ≤ q → view n l q ≡ 0
-view-out n l q h = rw (le-ltb q n h)
+use Rattle.binary.proofs.Bits.{bit as cases, ⊕-false, ⊕-assoc, &&-false, never, eqb-eq, eqb-differ}
+use Rattle.binary.proofs.Rows.{odd-none}
+use Rattle.binary.proofs.WordBits.{order, bit-xor, bit-zero, bit-one, bit-past, same-digit}
+use Rattle.machine.specs.Machine.{Form, side}
+use Rattle.machine.specs.Lists.{formOf, formsOf}
+use Rattle.machine.proofs.FormWords.{form-in, form-out}
+use Rattle.forms.specs.Words.{Words, joined, wordsIn, sideIn}
+use Rattle.forms.specs.Forms.{withLive}
+use Rattle.forms.specs.Sides.{check, wordOf, IsSideWord}
 
 ----------------------------------------------------------------------
--- A row's side
+-- The words of a form
 
--- The word with what is left of the row makes the side.
-pub record SideLeft (n : ℕ) (forms : List ℕ) (c : Check) (word i : ℕ) : Type 0 where
-  pub bits : (k : ℕ) → bit word k ⊕ odd (λ q. formsOf n forms q k) (drop i (c .row)) ≡ side (withLive n forms 0) c k
+pub words-in : (forms : List ℕ) (q v j : ℕ) → v < 4 → wordsIn forms q v j ≡ bit (getD forms (4 * q + v) 0) j
+unfolding wordsIn
+words-in forms q v j l = rw (lt-ltb v 4 l)
 
-constant-bit : (lit : Bool) (k : ℕ) → bit (cond lit 1 0) k ≡ (lit && eqb k 0)
-constant-bit true k = bit-one k
-constant-bit false k = bit-zero k
+pub words-out : (forms : List ℕ) (q v j : ℕ) → 4 ≤ v → wordsIn forms q v j ≡ false
+unfolding wordsIn
+words-out forms q v j l = rw (le-ltb v 4 l)
 
-module _ (n : ℕ) (forms row : List ℕ) (lit : Bool) (word : ℕ) where
-  pub side-start : word ≡ cond lit 1 0 → SideLeft n forms (check lit row) word 0
-  side-start e = record { bits = λ k. rw e (ap (_⊕ odd (λ q. formsOf n forms q k) row) (constant-bit lit k)) }
+-- Elements that are the same hold the same words.
+pub words-same : (a b : List ℕ) (q : ℕ) → ((v : ℕ) → v < 4 → getD a (4 * q + v) 0 ≡ getD b (4 * q + v) 0) → wordsIn a q ≡ wordsIn b q
+words-same a b q h =
+    fun-ext λ v. fun-ext λ j.
+    ⊎-elim (λ (l : v < 4). words-in a q v j l ∙ ap (λ (x : ℕ). bit x j) (h v l) ∙ sym (words-in b q v j l))
+    (λ (l : 4 ≤ v). words-out a q v j l ∙ sym (words-out b q v j l)) (order v 4)
 
-  module _ (i : ℕ) (left : SideLeft n forms (check lit row) word i) where
-    pub side-turn : (form : ℕ) → i < length row → form ≡ view n forms (getD row i 0)
-        → SideLeft n forms (check lit row) (bitXor word form) (i + 1)
-    side-turn form h e =
+-- A list of 64-bit words.
+abbrev pub Wide : List ℕ → Type 0
+Wide l = (i : ℕ) → getD l i 0 < 2 ^ 64
+
+pub words-narrow : (forms : List ℕ) → Wide forms → (q v j : ℕ) → 64 ≤ j → wordsIn forms q v j ≡ false
+words-narrow forms wide q v j h =
+    ⊎-elim (λ (l : v < 4). words-in forms q v j l ∙ bit-past (getD forms (4 * q + v) 0) 64 j (wide (4 * q + v)) h)
+    (λ (l : 4 ≤ v). words-out forms q v j l) (order v 4)
+
+pub form-joined : (forms : List ℕ) (q k : ℕ) → formOf forms q k ≡ joined (wordsIn forms q) k
+form-joined forms q k =
+    ⊎-elim (λ (l : k < 256). form-in forms q k l ∙ sym (words-in forms q (k / 64) (k % 64) (omega arith)))
+    (λ (l : 256 ≤ k). form-out forms q k l ∙ sym (words-out forms q (k / 64) (k % 64) (omega arith))) (order k 256)
+
+pub digits : {A : Type 0} (v j : ℕ) → j < 64 → (f : ℕ → ℕ → A) → f ((64 * v + j) / 64) ((64 * v + j) % 64) ≡ f v j
+digits v j l f =
+    let a : (64 * v + j) / 64 ≡ v = omega arith in let b : (64 * v + j) % 64 ≡ j = omega arith in ap₂ f a b
+
+pub joined-at : (w : Words) (v j : ℕ) → j < 64 → joined w (64 * v + j) ≡ w v j
+joined-at w v j l = digits v j l w
+
+----------------------------------------------------------------------
+-- The words of a side
+
+zero-digits : (k : ℕ) → (eqb (k / 64) 0 && eqb (k % 64) 0) ≡ eqb k 0
+zero-digits k =
+    cases (eqb (k / 64) 0) (λ t. let e = eqb-eq (k / 64) 0 t in rw t (same-digit k 0 (omega arith)))
+    (λ t. rw t (sym (eqb-differ k 0 (λ (e : k ≡ 0). let z : k / 64 ≡ 0 = omega arith in never (ap (λ (x : ℕ). eqb x 0) z) t))))
+
+pub side-joined : (n live : ℕ) (forms : List ℕ) (c : Check) → side (withLive n forms live) c ≡ joined (sideIn n forms c)
+unfolding sideIn
+side-joined n live forms c =
+    fun-ext λ k. ap₂ (λ (b : Bool) (f : ℕ → Bool). (c .lit && b) ⊕ odd f (c .row)) (sym (zero-digits k)) (fun-ext λ q. ap (ltb q n &&_) (form-joined forms q k))
+
+-- Where a word is the same in the first n forms, so is that of a side.
+pub side-same : (n : ℕ) (a b : List ℕ) (c : Check) (v j : ℕ) → ((q : ℕ) → q < n → wordsIn a q v j ≡ wordsIn b q v j) → sideIn n a c v j ≡ sideIn n b c v j
+unfolding sideIn
+side-same n a b c v j h =
+    ap (λ (f : ℕ → Bool). (c .lit && (eqb v 0 && eqb j 0)) ⊕ odd f (c .row))
+    (fun-ext λ q. ⊎-elim (λ (l : q < n). ap (ltb q n &&_) (h q l)) (λ (l : n ≤ q). rw (le-ltb q n l)) (order q n))
+
+-- Where no form has a bit, no side has, but for the constant.
+pub side-none : (n : ℕ) (forms : List ℕ) (c : Check) (v j : ℕ) → (eqb v 0 && eqb j 0) ≡ false → ((q : ℕ) → q < n → wordsIn forms q v j ≡ false)
+    → sideIn n forms c v j ≡ false
+unfolding sideIn
+side-none n forms c v j z h =
+    ap₂ (λ (b : Bool) (f : ℕ → Bool). (c .lit && b) ⊕ odd f (c .row)) z
+    (fun-ext λ q. ⊎-elim (λ (l : q < n). ap (ltb q n &&_) (h q l) ∙ &&-false (ltb q n)) (λ (l : n ≤ q). rw (le-ltb q n l)) (order q n))
+    ∙ ap₂ _⊕_ (&&-false (c .lit)) (odd-none (c .row))
+
+----------------------------------------------------------------------
+-- A word of a side, qubit by qubit
+
+pub word-in : (n : ℕ) (forms : List ℕ) (v q : ℕ) → q < n → wordOf n forms v q ≡ getD forms (4 * q + v) 0
+unfolding wordOf
+word-in n forms v q h = rw (lt-ltb q n h)
+
+pub word-out : (n : ℕ) (forms : List ℕ) (v q : ℕ) → n ≤ q → wordOf n forms v q ≡ 0
+unfolding wordOf
+word-out n forms v q h = rw (le-ltb q n h)
+
+word-bits : (n : ℕ) (forms : List ℕ) (v : ℕ) → v < 4 → (q j : ℕ) → bit (wordOf n forms v q) j ≡ (ltb q n && wordsIn forms q v j)
+word-bits n forms v l q j =
+    ⊎-elim (λ (h : q < n). ap (λ (x : ℕ). bit x j) (word-in n forms v q h) ∙ sym (words-in forms q v j l) ∙ rw (lt-ltb q n h))
+    (λ (h : n ≤ q). ap (λ (x : ℕ). bit x j) (word-out n forms v q h) ∙ bit-zero j ∙ rw (le-ltb q n h)) (order q n)
+
+abbrev wordAt : ℕ → List ℕ → ℕ → ℕ → ℕ → Bool
+wordAt n forms v j q = ltb q n && wordsIn forms q v j
+
+-- The word with what is left of the row makes the side's.
+pub record SideLeft (n : ℕ) (forms : List ℕ) (c : Check) (v word i : ℕ) : Type 0 where
+  pub bits : (j : ℕ) → bit word j ⊕ odd (wordAt n forms v j) (drop i (c .row)) ≡ sideIn n forms c v j
+
+module _ (n : ℕ) (forms row : List ℕ) (lit : Bool) (v word : ℕ) where
+  pub side-start : word ≡ cond (lit && eqb v 0) 1 0 → SideLeft n forms (check lit row) v word 0
+  unfolding sideIn
+  side-start e = record { bits = λ j. ap (_⊕ odd (wordAt n forms v j) row) (ap (λ (x : ℕ). bit x j) e ∙ constant lit (eqb v 0) j) }
+    where
+      constant : (a b : Bool) (j : ℕ) → bit (cond (a && b) 1 0) j ≡ (a && (b && eqb j 0))
+      constant true true j = bit-one j
+      constant true false j = bit-zero j
+      constant false b j = bit-zero j
+
+  module _ (i : ℕ) (left : SideLeft n forms (check lit row) v word i) where
+    pub side-turn : (form : ℕ) → v < 4 → i < length row → form ≡ wordOf n forms v (getD row i 0)
+        → SideLeft n forms (check lit row) v (bitXor word form) (i + 1)
+    side-turn form within h e =
         record {
-          bits = λ k. rw (e, add-one i) (ap (_⊕ rest k) (bit-xor word (view n forms q) k) ∙ ⊕-assoc (bit word k) (bit (view n forms q) k) (rest k)
-              ∙ sym (ap (λ (l : Row). bit word k ⊕ odd (λ p. formsOf n forms p k) l) (drop-cons row i 0 h)) ∙ left .bits k);
+          bits = λ j. rw (add-one i) (ap (_⊕ rest j) (bit-xor word form j ∙ ap (bit word j ⊕_) (ap (λ (x : ℕ). bit x j) e ∙ word-bits n forms v within q j))
+              ∙ ⊕-assoc (bit word j) (wordAt n forms v j q) (rest j)
+              ∙ sym (ap (λ (l : Row). bit word j ⊕ odd (wordAt n forms v j) l) (drop-cons row i 0 h)) ∙ left .bits j);
         }
       where
         q : ℕ
         q = getD row i 0
 
         rest : ℕ → Bool
-        rest k = odd (λ p. formsOf n forms p k) (drop (suc i) row)
+        rest j = odd (wordAt n forms v j) (drop (suc i) row)
 
-    pub side-end : length row ≤ i → IsSide n forms (check lit row) word
+    pub side-end : length row ≤ i → IsSideWord n forms (check lit row) v word
     side-end h =
         record {
-          bits = λ k. sym (⊕-false (bit word k)) ∙ sym (ap (λ (l : Row). bit word k ⊕ odd (λ q. formsOf n forms q k) l) (drop-of-length-le row h)) ∙ left .bits k;
+          bits = λ j. sym (⊕-false (bit word j)) ∙ sym (ap (λ (l : Row). bit word j ⊕ odd (wordAt n forms v j) l) (drop-of-length-le row h)) ∙ left .bits j;
         }
 
-----------------------------------------------------------------------
--- A guess replaced in a list
-
-pub replaced-start : (k side : ℕ) (forms : List ℕ) → Replaced 0 k side forms forms
-replaced-start k side forms = record { done = λ q h. absurd (not-suc-le-zero h); rest = λ q h. refl; long = refl }
-
-module _ (q k side : ℕ) (forms₀ forms : List ℕ) (so : Replaced q k side forms₀ forms) (h : q < length forms) where
-  pub replaced-turn : (word : ℕ) → ((j : ℕ) → bit word j ≡ replace k (bit side) (bit (getD forms q 0)) j)
-      → Replaced (q + 1) k side forms₀ (set forms q word)
-  replaced-turn word is =
-      record {
-        done = λ p l j. ⊎-elim
-            (λ (i : p < q). ap (λ (x : ℕ). bit x j) (getD-set-other forms q p word 0 (λ e. omega arith)) ∙ so .done p i j)
-            (λ (i : q ≤ p). rw (same p i l) (ap (λ (x : ℕ). bit x j) (getD-set-same forms q word 0 h) ∙ is j ∙ ap (λ (x : ℕ). replace k (bit side) (bit x) j) (so .rest q (omega arith))))
-            (order p q);
-        rest = λ p l. getD-set-other forms q p word 0 (λ e. omega arith) ∙ so .rest p (omega arith);
-        long = length-set forms q word ∙ so .long;
-      }
-    where
-      same : (p : ℕ) → q ≤ p → p < q + 1 → p ≡ q
-      same p a b = omega arith
-
-  -- A form that has neither guess k nor a later one.
-  pub replaced-skip : getD forms q 0 / 2 ^ k ≡ 0 → Replaced (q + 1) k side forms₀ forms
-  replaced-skip e =
-      subst (Replaced (q + 1) k side forms₀) (set-getD forms q 0) (replaced-turn (getD forms q 0) (replaced-low (getD forms q 0) k side e))
-
-without-none : (k : ℕ) (f : Form) → ((j : ℕ) → f j ≡ false) → (j : ℕ) → without k f j ≡ false
-without-none k f z j =
-    ⊎-elim (λ (l : j < k). without-below k j f l ∙ z j) (λ (l : k ≤ j). without-above k j f l ∙ z (suc j)) (order j k)
-
--- What the list then holds is what the machine replaces everywhere.
-pub forms-replaced : (n k side : ℕ) (forms forms′ : List ℕ) → Replaced n k side forms forms′
-    → formsOf n forms′ ≡ (λ q. replace k (bit side) (formsOf n forms q))
-forms-replaced n k side forms forms′ so = fun-ext λ q. fun-ext λ j. ⊎-elim (within q j) (past q j) (order q n)
-  where
-    within : (q j : ℕ) → q < n → formsOf n forms′ q j ≡ replace k (bit side) (formsOf n forms q) j
-    within q j h =
-        ap (λ (x : ℕ). bit x j) (view-in n forms′ q h) ∙ so .done q h j ∙ ap (λ (x : ℕ). replace k (bit side) (bit x) j) (sym (view-in n forms q h))
-
-    past : (q j : ℕ) → n ≤ q → formsOf n forms′ q j ≡ replace k (bit side) (formsOf n forms q) j
-    past q j h =
-        ap (λ (x : ℕ). bit x j) (view-out n forms′ q h) ∙ bit-zero j
-        ∙ sym (ap (λ (x : ℕ). replace k (bit side) (bit x) j) (view-out n forms q h) ∙ without-none k (λ i. bit 0 i ⊕ (bit 0 k && bit side i)) (λ i. rw (bit-zero i, bit-zero k)) j)
-
-----------------------------------------------------------------------
--- A row taken up
-
-newest-zero : (m : ℕ) (s : Form) → ((i : ℕ) → s (suc i) ≡ false) → newest m s ≡ 0
-newest-zero zero s z = refl
-newest-zero (suc m) s z = rw (z m) (newest-zero m s z)
-
-less-one : (n : ℕ) → n - 1 ≡ oneLess n
-less-one zero = refl
-less-one (suc n) = omega arith
-
-module _ (n : ℕ) (row : Row) (lit : Bool) (live : ℕ) (forms : List ℕ) (top : Topped n live forms) (word : ℕ)
-    (is : IsSide n forms (check lit row) word) where
-  by-word : takeUp (withLive n forms live) (check lit row) ≡ takeAt (newest live (bit word)) (bit word) (withLive n forms live)
-  by-word = ap (λ (s : Form). takeAt (newest live s) s (withLive n forms live)) (sym (fun-ext (is .bits)))
-
-  took-nothing : word ≡ 0 → TookUp n (takeUp (withLive n forms live) (check lit row)) (Live live) forms forms
-  took-nothing e =
-      rw (by-word, e, newest-zero live (bit 0) (λ i. bit-zero (suc i)), bit-zero 0)
-      (record { taken = (refl, refl, top); long = refl; rest = λ q h. refl })
-
-  took-failed : word ≡ 1 → TookUp n (takeUp (withLive n forms live) (check lit row)) Failed forms forms
-  took-failed e =
-      rw (by-word, e, newest-zero live (bit 1) (λ i. bit-one (suc i) ∙ eqb·suc-zero i), bit-one 0)
-      (record { taken = refl; long = refl; rest = λ q h. refl })
-
-  -- No side has a bit above the live guesses.
-  word-top : (j : ℕ) → live < j → bit word j ≡ false
-  word-top j l = is .bits j ∙ side-top (withLive n forms 0) (check lit row) j (λ q. top q j l) (omega arith)
-
-  guess-live : (k : ℕ) → Newest word k → k ≤ live
-  guess-live k new = ⊎-elim (λ (l : live < k). never (new .has) (word-top k l)) (λ l. l) (order live k)
-
-  replaced-top : (k : ℕ) → k ≤ live → (q j : ℕ) → oneLess live < j → replace k (bit word) (formsOf n forms q) j ≡ false
-  replaced-top k l q j h =
-      let e : live < suc j = omega (arith, less-one live) in
-      without-above k j (λ i. formsOf n forms q i ⊕ (formsOf n forms q k && bit word i)) (omega arith)
-      ∙ rw (top q (suc j) e, word-top (suc j) e) (&&-false (formsOf n forms q k))
-
-  took-guess : (k : ℕ) (forms′ : List ℕ) → Newest word k → Replaced n k word forms forms′
-      → TookUp n (takeUp (withLive n forms live) (check lit row)) (Live (live - 1)) forms forms′
-  took-guess zero forms′ new so = absurd (not-suc-le-zero (new .guess))
-  took-guess (suc k) forms′ new so =
-      let l : suc k ≤ live = guess-live (suc k) new in
-      let s : newest live (bit word) ≡ suc k = newest-is live k (bit word) l (new .has) (λ i a b. new .last (suc i) (omega arith)) in
-      let f : formsOf n forms′ ≡ (λ q. replace (suc k) (bit word) (formsOf n forms q)) = forms-replaced n (suc k) word forms forms′ so in
-      rw (by-word, s) (record {
-        taken = (ap Live (less-one live), f, λ q j h. ap (λ (g : ℕ → Form). g q j) f ∙ replaced-top (suc k) l q j h);
-        long = so .long;
-        rest = so .rest;
-      })
-
--- For every list and every forms.
-module _ (n : ℕ) (row : Row) (lit : Bool) (live : ℕ) (forms : List ℕ) where
-  pub takes-none : length forms < n → TakesUp n (check lit row) live Failed forms forms
-  takes-none h = record { long = refl; rest = λ q i. refl; taken = λ l top. absurd (omega arith) }
-
-  module _ (word : ℕ) (is : IsSide n forms (check lit row) word) where
-    pub takes-nothing : word ≡ 0 → TakesUp n (check lit row) live (Live live) forms forms
-    takes-nothing e = record { long = refl; rest = λ q i. refl; taken = λ l top. took-nothing n row lit live forms top word is e .taken }
-
-    pub takes-failed : word ≡ 1 → TakesUp n (check lit row) live Failed forms forms
-    takes-failed e = record { long = refl; rest = λ q i. refl; taken = λ l top. took-failed n row lit live forms top word is e .taken }
-
-    pub takes-dead : (k : ℕ) → Newest word k → live ≡ 0 → TakesUp n (check lit row) live Failed forms forms
-    takes-dead k new e =
-        record {
-          long = refl;
-          rest = λ q i. refl;
-          taken = λ l top. absurd (omega (arith, new .guess, guess-live n row lit live forms top word is k new));
-        }
-
-    pub takes-guess : (k : ℕ) (forms′ : List ℕ) → Newest word k → Replaced n k word forms forms′ → TakesUp n (check lit row) live (Live (live - 1)) forms forms′
-    takes-guess k forms′ new so =
-        record { long = so .long; rest = so .rest; taken = λ l top. took-guess n row lit live forms top word is k forms′ new so .taken }
+-- A word that is 0.
+pub side-zero : (n : ℕ) (forms : List ℕ) (c : Check) (v word : ℕ) → IsSideWord n forms c v word → word ≡ 0 → (j : ℕ) → sideIn n forms c v j ≡ false
+side-zero n forms c v word is e j = sym (is .bits j) ∙ ap (λ (x : ℕ). bit x j) e ∙ bit-zero j

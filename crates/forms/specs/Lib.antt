@@ -1,2 +1,4 @@
 pub mod Forms
+pub mod Words
+pub mod Changes
 pub mod Sides

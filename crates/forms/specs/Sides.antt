@@ -1,33 +1,41 @@
--- What the functions on forms as 64-bit words promise.
---   check         a row with its lit bit
---   IsSide        a word is a row's side
---   Newest        the newest guess in a side: its highest bit
---   Replaced      a guess replaced by the rest of a side in the first forms of a list
+-- What the functions on a row's side promise.
+--   check        a row with its lit bit
+--   Reaches      the highest word that the live guesses reach
+--   wordOf       a word of a qubit's form; 0 for a qubit n or above
+--   IsSideWord   a word of a row's side
+--   HighestPart  the highest word of a row's side that is not 0
+--   NewestBit    the newest guess in a word: its highest bit
 use mathlib.Core.Path.{_≡_}
-use mathlib.Core.Bool.{Bool, true, false}
+use mathlib.Core.Bool.{Bool, true, false, cond}
 use mathlib.Core.List.{List}
-use Prim.Native.Nat.{ℕ, _≤_, _<_}
-use lib.ListN.{length, getD}
+use Prim.Native.Nat.{ℕ, suc, _+_, _*_, _/_, _^_, _≤_, _<_}
+use lib.Dec.{ltb}
+use lib.ListN.{getD}
 use Rattle.binary.specs.Meaning.{Row, Check}
 use Rattle.binary.specs.Words.{bit}
-use Rattle.machine.specs.Machine.{side, replace}
-use Rattle.forms.specs.Forms.{withLive}
+use Rattle.forms.specs.Words.{sideIn}
 
 abbrev pub check : Bool → Row → Check
 check lit row = record { lit = lit; row = row }
 
--- A side does not depend on how many guesses are live.
-pub record IsSide (n : ℕ) (forms : List ℕ) (c : Check) (word : ℕ) : Type 0 where
-  pub bits : (k : ℕ) → bit word k ≡ side (withLive n forms 0) c k
+pub record Reaches (live top : ℕ) : Type 0 where
+  pub within : top < 4
+  pub covers : (k : ℕ) → k < 256 → k ≤ live → k / 64 ≤ top
 
-pub record Newest (word k : ℕ) : Type 0 where
-  pub guess : 0 < k
+unfoldable pub wordOf : ℕ → List ℕ → ℕ → ℕ → ℕ
+wordOf n forms v q = cond (ltb q n) (getD forms (4 * q + v) 0) 0
+
+pub record IsSideWord (n : ℕ) (forms : List ℕ) (c : Check) (v word : ℕ) : Type 0 where
+  pub bits : (j : ℕ) → bit word j ≡ sideIn n forms c v j
+
+-- From word `top` down; word 0 where there is none.
+pub record HighestPart (n : ℕ) (forms : List ℕ) (c : Check) (top v word : ℕ) : Type 0 where
+  pub within : v ≤ top
+  pub is : IsSideWord n forms c v word
+  pub some : 0 < v → word ≡ 0 → ⊥
+  pub above : (u : ℕ) → v < u → u ≤ top → (j : ℕ) → sideIn n forms c u j ≡ false
+
+pub record NewestBit (word k : ℕ) : Type 0 where
   pub within : k < 64
   pub has : bit word k ≡ true
-  pub last : (j : ℕ) → k < j → bit word j ≡ false
-
--- Guess k, in the first n elements; the others stay.
-pub record Replaced (n k side : ℕ) (forms forms′ : List ℕ) : Type 0 where
-  pub done : (q : ℕ) → q < n → (j : ℕ) → bit (getD forms′ q 0) j ≡ replace k (bit side) (bit (getD forms q 0)) j
-  pub rest : (q : ℕ) → n ≤ q → getD forms′ q 0 ≡ getD forms q 0
-  pub long : length forms′ ≡ length forms
+  pub below : word < 2 ^ suc k

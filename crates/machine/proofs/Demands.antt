@@ -4,7 +4,7 @@ use mathlib.Core.Bool.{Bool, true, false, not, _&&_}
 use mathlib.Core.Logic.{_↔_, _⊎_, inl, inr, ⊎-elim}
 use mathlib.Core.Option.{Option, none, some}
 use mathlib.Core.List.{List, [], _∷_}
-use Prim.Native.Nat.{ℕ, zero, suc, _+_, _≤_, zero-le}
+use Prim.Native.Nat.{ℕ, zero, suc, _+_, _≤_, _<_, zero-le}
 use native.Mathlib.Nat.{not-suc-le-zero, zero-add}
 use Rattle.binary.specs.Bits.{tally}
 use Rattle.binary.specs.Meaning.{Qubits, Row, Check, All, Even, Differ}
@@ -16,11 +16,11 @@ use Rattle.machine.specs.Words.{finished?}
 use Rattle.machine.specs.Machine.{Form, Forms, blank, State, Stage, on, failed, End, Half, keepIf, readings, checks, fixedOf, ruleOf, startOf, decoded, start, startMark, isOpen, closed?, dangling, fewer, takeUpAll, stage, turn, noneOpen}
 use Rattle.machine.specs.Fillings.{filling}
 use Rattle.machine.specs.Report.{Shown, shown, outcome, none?}
-use Rattle.machine.specs.Demands.{Obeys, FitsHalf, VerdictLaw, Fillings, FillingsLaw, ClassesLaw, BudgetsLaw, turnOf, turned, stageOf, CountsLaw, CountedLaw, EmptiedLaw}
+use Rattle.machine.specs.Demands.{Obeys, FitsHalf, VerdictLaw, Fillings, FillingsLaw, ClassesLaw, BudgetsLaw, turnOf, turned, stageOf, CountsLaw, CountedLaw, EmptiedLaw, ReachLaw}
 use Rattle.machine.proofs.Runs.{Rule, turnsOf, Said, turn-either, run-keeps, run-said}
 use Rattle.machine.proofs.Stages.{Good, turn-good, start-good}
 use Rattle.machine.proofs.Guessing.{best-rule}
-use Rattle.machine.proofs.Budgets.{FewAt, few-stage, Settled, larger}
+use Rattle.machine.proofs.Budgets.{FewAt, few-stage, few-turn, Settled, larger}
 use Rattle.machine.proofs.Counts.{Counted, CountedAt, counted-turn, counted-start, BlankAt, blank-turn, blank-start}
 use Rattle.machine.proofs.Verdicts.{failed-fits, values-fit, classes-one, certain-right, unsure-right}
 
@@ -70,8 +70,14 @@ module _ (h : Half) (budget limit : ℕ) where
   unfolding decoded
   half-good =
       run-keeps (checks h) (h .size) (ruleOf h) budget limit (Good (checks h) (h .lost) (fixedOf h))
-      (turn-good (checks h) (h .lost) (fixedOf h) (h .size) (ruleOf h) (rule-of h)) (suc limit) (startOf h)
+      (λ st u. turn-good (checks h) (h .lost) (fixedOf h) (h .size) (ruleOf h) (rule-of h) st) (suc limit) (startOf h)
       (start-good (checks h) (h .lost) (fixedOf h))
+
+  half-few : FewAt budget (stageOf (decoded h budget limit))
+  unfolding decoded
+  half-few =
+      run-keeps (checks h) (h .size) (ruleOf h) budget limit (FewAt budget) (λ st u few. few-turn (checks h) (h .size) (ruleOf h) budget limit st few u)
+      (suc limit) (startOf h) (start-few budget (checks h) (h .lost) (fixedOf h))
 
   half-said : let e : End = decoded h budget limit in Said (checks h) (h .size) (ruleOf h) budget limit (e .word) (e .state)
   unfolding decoded
@@ -264,7 +270,7 @@ module _ (h : Half) (budget limit : ℕ) where
   keeps : (P : Stage → Type 0) → ((st : State) → P (on st) → P (turn (checks h) (h .size) (ruleOf h) st)) → P (startOf h)
       → P (stageOf (decoded h budget limit))
   unfolding decoded
-  keeps P turns begins = run-keeps (checks h) (h .size) (ruleOf h) budget limit P turns (suc limit) (startOf h) begins
+  keeps P turns begins = run-keeps (checks h) (h .size) (ruleOf h) budget limit P (λ st u. turns st) (suc limit) (startOf h) begins
 
 half-blank : (h : Half) (budget limit : ℕ) → BlankAt (stageOf (decoded h budget limit))
 half-blank h budget limit =
@@ -345,3 +351,22 @@ emptied h budget limit =
     none-live : (w : Word) (st : State) → w ≡ None → BlankAt (stageOf (record { word = w; state = st })) → st .forms .live ≡ 0
     none-live w st i b =
         let c : BlankAt (failed st) = subst (λ (x : Word). BlankAt (stageOf (record { word = x; state = st }))) i b in ap (λ (fs : Forms). fs .live) c
+
+----------------------------------------------------------------------
+-- How far forms reach
+
+pub reach : ReachLaw
+unfolding ReachLaw shown
+reach h budget limit = record { live = few (none? (e .word)) refl; forms = top (none? (e .word)) refl }
+  where
+    e : End
+    e = decoded h budget limit
+
+    few : (b : Bool) → none? (e .word) ≡ b → e .state .forms .live ≤ budget
+    few true i = let z : BlankAt (failed (e .state)) = rw i at (half-blank h budget limit) in rw (ap (λ (fs : Forms). fs .live) z) zero-le
+    few false i = rw i at (half-few h budget limit)
+
+    top : (b : Bool) → none? (e .word) ≡ b → (q k : ℕ) → e .state .forms .live < k → (not (none? (e .word)) && e .state .forms .form q k) ≡ false
+    top true i q k l = rw i
+    top false i q k l =
+        let z : Good (checks h) (h .lost) (fixedOf h) (on (e .state)) = rw i at (half-good h budget limit) in rw i (z .top q k l)

@@ -12,3 +12,4 @@ pub mod Demands
 pub mod Seen
 pub mod Unread
 pub mod Peeling
+pub mod FormWords

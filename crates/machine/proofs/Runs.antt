@@ -135,7 +135,7 @@ module _ (checks : List Check) (n : ℕ) (choose : Qubits → Option ℕ) where
 
 module _ (checks : List Check) (n : ℕ) (choose : Qubits → Option ℕ) (budget limit : ℕ) where
   -- What holds of the stage before each turn holds of the stage that the half ends in.
-  pub run-keeps : (P : Stage → Type 0) → ((st : State) → P (on st) → P (turn checks n choose st))
+  pub run-keeps : (P : Stage → Type 0) → ((st : State) → Unsaid checks n choose budget limit st → P (on st) → P (turn checks n choose st))
       → (m : ℕ) (s : Stage) → P s → P (stageOf (run checks n choose budget limit m s))
   unfolding run
   run-keeps P turns zero (on st) v = v
@@ -144,7 +144,7 @@ module _ (checks : List Check) (n : ℕ) (choose : Qubits → Option ℕ) (budge
   run-keeps P turns (suc m) (on st) v =
       before-cases checks n choose budget limit st
       (λ b. P (stageOf (onward checks n choose b st (run checks n choose budget limit m) (turn checks n choose st))))
-      (λ w e s. rw e v) (λ u. run-keeps P turns m (turn checks n choose st) (turns st v))
+      (λ w e s. rw e v) (λ u. run-keeps P turns m (turn checks n choose st) (turns st u v))
 
   -- The fuel does not run out: a test before a turn ends the half, or a row that was taken up.
   pub run-said : Rule n choose → (m : ℕ) (s : Stage) → turnsOf s + m ≡ limit

@@ -9,7 +9,7 @@ use mathlib.Core.List.{List}
 use lib.ListN.{getD}
 use borrow.Author.Tests.{lt-ltb, le-ltb}
 use Rattle.binary.proofs.Bits.{bit as cases, eqb-eq, &&-false}
-use Rattle.binary.proofs.WordBits.{order, bit-zero}
+use Rattle.binary.proofs.WordBits.{order}
 use Rattle.machine.specs.Words.{finished?}
 use Rattle.machine.specs.Machine.{End, Half, decoded}
 use Rattle.machine.specs.Report.{Shown, shown, outcome, none?}
@@ -80,7 +80,7 @@ seen-is h obeys budget limit old new s =
     forms : (q k : ℕ) → formsOf (h .size) (new .forms) q k ≡ o .form q k
     forms q k =
         ⊎-elim (λ l. rw (lt-ltb q (h .size) l) (s .forms q l k))
-        (λ l. rw (le-ltb q (h .size) l) (bit-zero k ∙ sym (form-past h obeys budget limit q l k))) (order q (h .size))
+        (λ l. rw (le-ltb q (h .size) l) (sym (form-past h obeys budget limit q l k))) (order q (h .size))
 
     flips : (q : ℕ) → eqb (view (h .size) (new .correction) q) 1 ≡ o .flip q
     flips q =

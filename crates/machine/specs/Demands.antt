@@ -6,7 +6,8 @@
 --   Counts       the turns made are the machine's turns; the counts are those of the marks
 --   Counted      the same of what the half shows
 --   Emptied      what is 0 after none, and after spent and stopped
---   VerdictLaw, FillingsLaw, ClassesLaw, CountsLaw, CountedLaw, EmptiedLaw: each half of a code and a shot that obey, with any budget and limit, is so
+--   Reach        how many guesses are live, and how far forms reach
+--   VerdictLaw, FillingsLaw, ClassesLaw, CountsLaw, CountedLaw, EmptiedLaw, ReachLaw: each half of a code and a shot that obey, with any budget and limit, is so
 --   BudgetsLaw   demand 3: two decodes of the same code and shot, the second with a budget and a limit no smaller
 use mathlib.Core.Path.{_≡_}
 use mathlib.Core.Bool.{Bool, true, false, not, _&&_}
@@ -154,3 +155,11 @@ pub record Emptied (s : Shown) : Type 0 where
 
 unfoldable pub EmptiedLaw : Type 0
 EmptiedLaw = (h : Half) (budget limit : ℕ) → Emptied (outcome h budget limit)
+
+-- No more guesses are live than the budget, and no form has a bit above them.
+pub record Reach (budget : ℕ) (s : Shown) : Type 0 where
+  pub live : s .report .live ≤ budget
+  pub forms : (q k : ℕ) → s .report .live < k → s .form q k ≡ false
+
+unfoldable pub ReachLaw : Type 0
+ReachLaw = (h : Half) (budget limit : ℕ) → Reach budget (outcome h budget limit)

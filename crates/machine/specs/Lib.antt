@@ -7,3 +7,4 @@ pub mod Bench
 pub mod Demands
 pub mod Unread
 pub mod Peeling
+pub mod OneWord

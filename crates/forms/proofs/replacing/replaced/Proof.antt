@@ -1,8 +1,8 @@
--- `forms::replaced` meets its contract. Assumes nothing.
+-- `forms::replacing::replaced` meets its contract. Assumes nothing.
+use Rattle.forms.proofs.WordBits.{replaced-with, replaced-without}
 use borrow.Author.Needs.{needs}
-use Rattle.forms.proofs.FormBits.{replaced-with, replaced-without}
-use Rattle.forms.proofs.replaced.Statement.{statement}
-use Rattle.forms.proofs.replaced.Tie as tie
+use Rattle.forms.proofs.replacing.replaced.Statement.{statement}
+use Rattle.forms.proofs.replacing.replaced.Tie as tie
 
 shr-if1 : tie.Need-shr-if1
 shr-if1 c = search needs

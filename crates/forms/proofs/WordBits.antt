@@ -1,9 +1,9 @@
--- The bits of a form's word: with one bit taken out, with a guess replaced, and the highest bit. Assumes nothing.
+-- The bits of a word: with one bit taken out, with a guess replaced, and the highest bit. Assumes nothing.
 use mathlib.Core.Path.{_≡_, sym, ap, ap₂, _∙_, fun-ext, subst}
-use mathlib.Core.Bool.{true, false}
-use mathlib.Core.Logic.{_⊎_, ⊎-elim}
+use mathlib.Core.Bool.{true, false, _&&_}
+use mathlib.Core.Logic.{⊎-elim}
 use Prim.Native.Nat.{ℕ, suc, _+_, _-_, _*_, _/_, _%_, _^_, _≤_, _<_}
-use native.Mathlib.Nat.{eq-zero-or-pos, le-trans, lt-of-le-of-lt, mod-lt, mod-eq-of-lt, div-mul-le-self, div-eq-of-lt-le, one-mul, pow-succ'}
+use native.Mathlib.Nat.{le-trans, lt-of-le-of-lt, mod-lt, mod-eq-of-lt, div-mul-le-self, div-one}
 use native.Mathlib.Omega.{arith}
 use borrow.Author.Tests.{eq-eqb, ne-eqb}
 use lib.Count.{leadingZeros, leading-top}
@@ -12,10 +12,10 @@ use lib.Pow.{pow-pos, high, low, shr-le, split}
 use lib.Bits.{bitOr, bitXor, or-shifted}
 use Rattle.binary.specs.Bits.{_⊕_}
 use Rattle.binary.specs.Words.{bit}
-use Rattle.binary.proofs.Bits.{⊕-false}
-use Rattle.binary.proofs.WordBits.{order, bit-xor, bit-past, bit-shr, bit-mod, one-shl}
+use Rattle.binary.proofs.Bits.{⊕-false, &&-false, &&-true, eqb-sym}
+use Rattle.binary.proofs.WordBits.{order, parity, bit-zero, bit-pow, bit-xor, bit-past, bit-shr, bit-mod, one-shl, top-set}
 use Rattle.machine.specs.Machine.{Form, without, replace}
-use Rattle.forms.specs.Sides.{Newest}
+use Rattle.forms.specs.Sides.{NewestBit}
 use Rattle.machine.proofs.TakingUp.{without-below, without-above}
 
 ----------------------------------------------------------------------
@@ -54,23 +54,32 @@ module _ (f k : ℕ) (word : f < 2 ^ 64) (within : k < 64) where
           ∙ bit-shr (f / 2 ^ 1) k (j - k) ∙ bit-shr f 1 (k + (j - k)) ∙ ap (bit f) d ∙ sym (without-above k j (bit f) l)
 
 ----------------------------------------------------------------------
+-- A bit tested
+
+pub odd-bit : (f k : ℕ) → f / 2 ^ k % 2 ≡ 1 → bit f k ≡ true
+unfolding bit
+odd-bit f k t = eq-eqb (f / 2 ^ k % 2) 1 t
+
+pub even-bit : (f k : ℕ) → (f / 2 ^ k % 2 ≡ 1 → ⊥) → bit f k ≡ false
+unfolding bit
+even-bit f k t = ne-eqb (f / 2 ^ k % 2) 1 t
+
+----------------------------------------------------------------------
 -- A guess replaced in a word
 
 module _ (f k side : ℕ) where
   -- With guess k the side is added, and without it nothing is; then bit k is taken out.
   pub replaced-with : (r : ℕ) → f / 2 ^ k % 2 ≡ 1 → ((j : ℕ) → bit r j ≡ without k (bit (bitXor f side)) j)
       → (j : ℕ) → bit r j ≡ replace k (bit side) (bit f) j
-  unfolding bit
   replaced-with r t h j =
-      h j ∙ ap (λ (g : Form). without k g j) (fun-ext λ i. bit-xor f side i ∙ rw (eq-eqb (f / 2 ^ k % 2) 1 t))
+      h j ∙ ap (λ (g : Form). without k g j) (fun-ext λ i. bit-xor f side i ∙ rw (odd-bit f k t))
 
   replaced-none : bit f k ≡ false → (j : ℕ) → without k (bit f) j ≡ replace k (bit side) (bit f) j
   replaced-none t j = ap (λ (g : Form). without k g j) (fun-ext λ i. sym (⊕-false (bit f i)) ∙ rw t)
 
   pub replaced-without : (r : ℕ) → (f / 2 ^ k % 2 ≡ 1 → ⊥) → ((j : ℕ) → bit r j ≡ without k (bit f) j)
       → (j : ℕ) → bit r j ≡ replace k (bit side) (bit f) j
-  unfolding bit
-  replaced-without r t h j = h j ∙ replaced-none (ne-eqb (f / 2 ^ k % 2) 1 t) j
+  replaced-without r t h j = h j ∙ replaced-none (even-bit f k t) j
 
   -- A word with neither bit k nor a later one.
   pub replaced-low : f / 2 ^ k ≡ 0 → (j : ℕ) → bit f j ≡ replace k (bit side) (bit f) j
@@ -88,29 +97,29 @@ module _ (f k side : ℕ) where
           (λ (l : k ≤ j). none j l ∙ sym (none (suc j) (omega arith)) ∙ sym (without-above k j (bit f) l)) (order j k)
 
 ----------------------------------------------------------------------
+-- A word's lowest bit at another's top
+
+pub carried : (x j : ℕ) → bit (x % 2 * 2 ^ 63 % 2 ^ 64) j ≡ (eqb j 63 && bit x 0)
+unfolding bit
+carried x j =
+    ⊎-elim (λ (e : x % 2 ≡ 0). rw e (bit-zero j ∙ sym (ap (eqb j 63 &&_) (ap (λ (y : ℕ). eqb (y % 2) 1) (div-one x) ∙ ap (λ (y : ℕ). eqb y 1) e) ∙ &&-false (eqb j 63))))
+    (λ (e : x % 2 ≡ 1). rw e (ap (λ (y : ℕ). bit y j) (one-shl 63 (omega arith)) ∙ bit-pow 63 j ∙ eqb-sym 63 j
+    ∙ sym (&&-true (eqb j 63) (ap (λ (y : ℕ). eqb (y % 2) 1) (div-one x) ∙ ap (λ (y : ℕ). eqb y 1) e)))) (parity x)
+
+----------------------------------------------------------------------
 -- The highest bit
 
-top-set : (n k : ℕ) → 2 ^ k ≤ n → n < 2 ^ suc k → bit n k ≡ true
-unfolding bit
-top-set n k l h =
-    let e : n / 2 ^ k ≡ 1 = div-eq-of-lt-le (2 ^ k) (rw one-mul l) (rw (← pow-succ' 2 k) h) in
-    ap (λ (x : ℕ). eqb (x % 2) 1) e
-
 -- A word's leading zeros, and its newest guess.
-module _ (word : ℕ) (more : 1 < word) (fits : word < 2 ^ 64) where
+module _ (word : ℕ) (more : 0 < word) (fits : word < 2 ^ 64) where
   pub zeros-few : leadingZeros 64 word ≤ 63
-  zeros-few = omega (arith, leading-top 64 word (omega arith) fits .1)
+  zeros-few = omega (arith, leading-top 64 word more fits .1)
 
-  pub newest-top : Newest word (63 - leadingZeros 64 word)
+  pub newest-top : NewestBit word (63 - leadingZeros 64 word)
   newest-top =
-      let t = leading-top 64 word (omega arith) fits in
+      let t = leading-top 64 word more fits in
       let e : t .0 ≡ 63 - leadingZeros 64 word = omega (arith, t .1) in
-      subst (Newest word) e (record {
-        guess = ⊎-elim (λ (z : t .0 ≡ 0). absurd (one z (t .3))) (λ p. p) (eq-zero-or-pos (t .0));
+      subst (NewestBit word) e (record {
         within = omega (arith, t .1);
         has = top-set word (t .0) (t .2) (t .3);
-        last = λ j l. bit-past word (suc (t .0)) j (t .3) l;
+        below = t .3;
       })
-    where
-      one : {j : ℕ} → j ≡ 0 → word < 2 ^ suc j → ⊥
-      one e h = let z : word < 2 = rw e at h in omega arith
