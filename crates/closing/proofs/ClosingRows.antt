@@ -3,7 +3,7 @@ use mathlib.Core.Path.{_≡_, refl, sym, ap, _∙_, subst}
 use mathlib.Core.Bool.{Bool, true, false, not, _&&_, cond}
 use mathlib.Core.Option.{Option, none, some}
 use mathlib.Core.List.{List, []}
-use Prim.Native.Nat.{ℕ, _+_, _-_, _≤_, _<_}
+use Prim.Native.Nat.{ℕ, _+_, _*_, _-_, _≤_, _<_}
 use native.Mathlib.Omega.{arith}
 use lib.Dec.{eqb, ltb, leb}
 use lib.ListN.{length, getD}
@@ -85,7 +85,7 @@ module _ (n : ℕ) (c : RowLists) (p live : ℕ) (o : Qubits) (forms₀ work₀ 
         let it = on-it n c p o work₀ small few (g .given) i work same (s .lowering) h found long work′ number low in
         rw (it .0, it .1, number-is n c p o work₀ small few (g .given) i work same (s .lowering) h found long work′ number low) (sym (length-empty (part o′ (here c i .row))))
 
-    module _ (told : Bool) (tells : told ≡ eqb number 0) (room : n ≤ length forms) (t : Taken) (forms′ : List ℕ) (took : TookIf n told (here c i) left forms forms′ t) where
+    module _ (told : Bool) (tells : told ≡ eqb number 0) (room : 4 * n ≤ length forms) (t : Taken) (forms′ : List ℕ) (took : TookIf n told (here c i) left forms forms′ t) where
       abbrev row-step : Option Forms
       row-step = takeIf (was-read c i && test (here c i)) (withLive n forms left) (here c i)
 
@@ -122,10 +122,10 @@ module _ (n : ℕ) (c : RowLists) (p live : ℕ) (o : Qubits) (forms₀ work₀ 
 ----------------------------------------------------------------------
 -- The loop
 
--- Whatever the lists hold: lengths, and elements past n and past what is kept, stay; row i is the next on the qubit.
+-- Whatever the lists hold: lengths, and forms past 4 × n and what is past what is kept, stay; row i is the next on the qubit.
 pub record ClosingAll (n : ℕ) (c : RowLists) (p live : ℕ) (forms₀ work₀ : List ℕ) (i left : ℕ) (forms work : List ℕ) : Type 0 where
   pub forms-long : length forms ≡ length forms₀
-  pub forms-rest : (q : ℕ) → n ≤ q → getD forms q 0 ≡ getD forms₀ q 0
+  pub forms-rest : (q : ℕ) → 4 * n ≤ q → getD forms q 0 ≡ getD forms₀ q 0
   pub work-long : length work ≡ length work₀
   pub below : (k : ℕ) → k < 8192 → getD work k 0 ≡ getD work₀ k 0
   pub past : (k : ℕ) → 9216 ≤ k → getD work k 0 ≡ getD work₀ k 0
@@ -163,7 +163,7 @@ module _ (n : ℕ) (c : RowLists) (p live : ℕ) (forms₀ work₀ : List ℕ) (
   all-end i left forms work a h =
       closed-rows i left forms work a (Live left) (λ o g. closing-end n c p live o forms₀ work₀ small few g i left forms work (a .so o g) h)
 
-  module _ (i left : ℕ) (forms work : List ℕ) (a : ClosingAll n c p live forms₀ work₀ i left forms work) (h : i < c .count) (long : 9216 ≤ length work₀) (room : n ≤ length forms₀)
+  module _ (i left : ℕ) (forms work : List ℕ) (a : ClosingAll n c p live forms₀ work₀ i left forms work) (h : i < c .count) (long : 9216 ≤ length work₀) (room : 4 * n ≤ length forms₀)
       (work′ : List ℕ) (number : ℕ) (low : Lowered i work work′ number) (told : Bool) (tells : told ≡ eqb number 0) (t : Taken) (forms′ : List ℕ)
       (took : TookIf n told (here c i) left forms forms′ t) where
     stays : (i′ left′ : ℕ) → i′ ≤ c .count → (i′ < c .count → inSet work′ p i′ ≡ true)
@@ -205,7 +205,7 @@ module _ (n : ℕ) (c : RowLists) (p live : ℕ) (forms₀ work₀ : List ℕ) (
 
 -- What the loop asks.
 pub record Fitting (n : ℕ) (c : RowLists) (p : ℕ) (work forms : List ℕ) : Type 0 where
-  pub forms-long : n ≤ length forms
+  pub forms-long : 4 * n ≤ length forms
   pub small : p < 1024
   pub few : c .count ≤ 512
   pub work-long : 10240 ≤ length work
@@ -221,7 +221,7 @@ closed-as n c p live forms forms′ work work′ t f v =
       lt-ltb p 1024 (f .small),
       le-leb (c .count) 512 (f .few),
       le-leb (c .first + c .count) 1024 (f .last),
-      le-leb n (length forms) (f .forms-long),
+      le-leb (4 * n) (length forms) (f .forms-long),
       le-leb 10240 (length work) (f .work-long),
       le-leb (c .first + c .count) (length (c .lit)) (f .lit),
     ))
@@ -235,7 +235,7 @@ module _ (n : ℕ) (c : RowLists) (p live : ℕ) (forms work : List ℕ) (told :
   fits-out e =
       let a = and-out _ (leb (c .first + c .count) (length (c .lit))) (does-fit e) in
       let b = and-out _ (leb 10240 (length work)) (a .0) in
-      let d = and-out _ (leb n (length forms)) (b .0) in
+      let d = and-out _ (leb (4 * n) (length forms)) (b .0) in
       let f = and-out _ (leb (c .first + c .count) 1024) (d .0) in
       let g = and-out (ltb p 1024) (leb (c .count) 512) (f .0) in
       record {

@@ -8,7 +8,7 @@ use mathlib.Core.Path.{_≡_}
 use mathlib.Core.Bool.{Bool, true, false, _&&_, _||_, cond}
 use mathlib.Core.Option.{Option, none, some}
 use mathlib.Core.List.{List}
-use Prim.Native.Nat.{ℕ, _+_, _≤_, _<_}
+use Prim.Native.Nat.{ℕ, _+_, _*_, _≤_, _<_}
 use lib.Dec.{ltb, leb}
 use lib.ListN.{length, getD}
 use Rattle.binary.specs.Meaning.{Qubits, Check, has}
@@ -41,8 +41,8 @@ takenIf closed n forms live c = takeIf closed (withLive n forms live) c
 
 pub record TookIf (n : ℕ) (closed : Bool) (c : Check) (live : ℕ) (forms forms′ : List ℕ) (t : Taken) : Type 0 where
   pub long : length forms′ ≡ length forms
-  pub rest : (q : ℕ) → n ≤ q → getD forms′ q 0 ≡ getD forms q 0
-  pub taken : n ≤ length forms → Topped n live forms → TakenAs n forms′ (takenIf closed n forms live c) t
+  pub rest : (i : ℕ) → 4 * n ≤ i → getD forms′ i 0 ≡ getD forms i 0
+  pub taken : 4 * n ≤ length forms → Topped n live forms → TakenAs n forms′ (takenIf closed n forms live c) t
 
 ----------------------------------------------------------------------
 -- The rows on a settled qubit
@@ -54,14 +54,14 @@ pub record TakenRows (n : ℕ) (c : RowLists) (p live : ℕ) (o : Qubits) (forms
 
 pub record ClosingRows (n : ℕ) (c : RowLists) (p live : ℕ) (forms forms′ work work′ : List ℕ) (t : Taken) : Type 0 where
   pub forms-long : length forms′ ≡ length forms
-  pub forms-rest : (q : ℕ) → n ≤ q → getD forms′ q 0 ≡ getD forms q 0
+  pub forms-rest : (i : ℕ) → 4 * n ≤ i → getD forms′ i 0 ≡ getD forms i 0
   pub work-long : length work′ ≡ length work
   pub below : (k : ℕ) → k < 8192 → getD work′ k 0 ≡ getD work k 0
   pub past : (k : ℕ) → 9216 ≤ k → getD work′ k 0 ≡ getD work k 0
   pub rows : GoodRows n c → (o : Qubits) → o p ≡ true → Kept o c work → RowsOn o c work → Topped n live forms → TakenRows n c p live o forms forms′ work′ t
 
 unfoldable pub fits? : ℕ → ℕ → ℕ → ℕ → ℕ → ℕ → ℕ → Bool
-fits? n lit first count p work forms = ltb p 1024 && leb count 512 && leb (first + count) 1024 && leb n forms && leb 10240 work && leb (first + count) lit
+fits? n lit first count p work forms = ltb p 1024 && leb count 512 && leb (first + count) 1024 && leb (4 * n) forms && leb 10240 work && leb (first + count) lit
 
 abbrev pub fitting : ℕ → RowLists → ℕ → List ℕ → List ℕ → Bool
 fitting n c p work forms = fits? n (length (c .lit)) (c .first) (c .count) p (length work) (length forms)

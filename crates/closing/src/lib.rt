@@ -1,6 +1,6 @@
 // Closed rows taken up.
 ghost use mathlib.Core.Path.{_≡_};
-ghost use Prim.Native.Nat.{_+_, _≤_, _<_};
+ghost use Prim.Native.Nat.{_+_, _*_, _≤_, _<_};
 ghost use lib.ListN.{length};
 ghost use Rattle.scans.specs.Rows.{checkAt};
 ghost use Rattle.closing.specs.Closing.{TookIf, ClosingRows, fits?, ClosedRows, LitClosed};
@@ -73,7 +73,7 @@ fn close(
     work: &mut [u64],
     forms: &mut [u64],
 ) -> Taken
-    requires { ⌜ (n ≤ length (now forms)) × (p .0 < 1024) × (rows .count ≤ 512) × (10240 ≤ length (now work)) × (rows .first .0 + rows .count ≤ length (now lit)) × (rows .first .0 + rows .count ≤ 1024) ⌝ }
+    requires { ⌜ (4 * n ≤ length (now forms)) × (p .0 < 1024) × (rows .count ≤ 512) × (10240 ≤ length (now work)) × (rows .first .0 + rows .count ≤ length (now lit)) × (rows .first .0 + rows .count ≤ 1024) ⌝ }
     ensures { λ t. ⌜ ClosingRows n (record { flat = now (flat .entry); ends = now (ends .entry); lit = now (lit .entry); first = rows .first .0; count = rows .count }) (p .0) live (now (forms .entry)) (now (forms .exit)) (now (work .entry)) (now (work .exit)) t ⌝ }
 {
     let begin = rows.first;
@@ -100,7 +100,7 @@ fn fits(n: usize, lit: &[u8], rows: Rows, p: Qubit, work: &[u64], forms: &[u64])
     let first = rows.first;
     let last = first.0 as usize + rows.count as usize;
     let small = (p.0 < 1024) & (rows.count <= 512) & (last <= 1024);
-    small & (n <= forms.len()) & (10240 <= work.len()) & (last <= lit.len())
+    small & (n <= forms.len() / 4) & (10240 <= work.len()) & (last <= lit.len())
 }
 
 // Each row on qubit p, which was settled, has an open qubit less; those that this closed are taken up, ascending, up to the first that fails. Nothing is

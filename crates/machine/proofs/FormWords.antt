@@ -5,9 +5,11 @@ use mathlib.Core.Logic.{⊎-elim}
 use mathlib.Core.List.{List}
 use Prim.Native.Nat.{ℕ, _+_, _*_, _/_, _%_, _^_, _≤_, _<_}
 use native.Mathlib.Omega.{arith}
+use lib.Dec.{leb}
 use lib.ListN.{getD}
-use borrow.Author.Tests.{lt-ltb, le-ltb}
+use borrow.Author.Tests.{lt-ltb, le-ltb, le-leb, leb-true}
 use Rattle.binary.specs.Words.{bit}
+use Rattle.binary.proofs.Bits.{iff-eq}
 use Rattle.binary.proofs.WordBits.{order, bit-past, bits-none}
 use Rattle.machine.specs.Report.{Shown, outcome}
 use Rattle.machine.specs.Lists.{formOf, HalfLists, Shows}
@@ -59,3 +61,9 @@ one-word h budget limit few old new s = record { marks = s .marks; first = first
         each j =
             ⊎-elim (λ (l : j < 64). sym (form-at (new .forms) q v j b l) ∙ s .forms q i (64 * v + j) ∙ past q (64 * v + j) (omega arith))
             (λ (l : 64 ≤ j). bit-past (getD (new .forms) (4 * q + v) 0) 64 j (s .words (4 * q + v) (omega arith)) l) (order j 64)
+
+-- Room for four words a qubit, by a quotient that no n makes too large.
+pub four-words : (n long : ℕ) → leb n (long / 4) ≡ leb (4 * n) long
+four-words n long =
+    iff-eq (leb n (long / 4)) (leb (4 * n) long) (λ t. let l = leb-true n (long / 4) t in le-leb (4 * n) long (omega arith))
+    (λ t. let l = leb-true (4 * n) long t in le-leb n (long / 4) (omega arith))

@@ -1,15 +1,16 @@
 -- A half from the marks of its start: what is kept of its rows, the closed rows, the turns, the report. Assumes nothing.
 use mathlib.Core.Path.{_≡_, refl, sym, ap, _∙_, fun-ext, subst}
 use mathlib.Core.Bool.{Bool, true, false, not, cond}
-use mathlib.Core.Logic.{inr, ⊎-elim}
+use mathlib.Core.Logic.{_⊎_, inl, inr, ⊎-elim}
 use mathlib.Core.Option.{none, some}
 use mathlib.Core.List.{List}
-use Prim.Native.Nat.{ℕ, suc, _+_, _≤_, _<_, zero-le}
+use Prim.Native.Nat.{ℕ, suc, _+_, _*_, _/_, _%_, _≤_, _<_, zero-le}
 use native.Mathlib.Omega.{arith}
 use lib.Dec.{leb}
 use lib.ListN.{length}
 use borrow.Author.Tests.{leb-true, le-leb, lt-ltb, le-ltb}
 use Rattle.binary.specs.Meaning.{Qubits}
+use Rattle.binary.specs.Words.{bit}
 use Rattle.binary.proofs.Bits.{bit as cases, never, and-out, not-out}
 use Rattle.binary.proofs.WordBits.{order, bit-zero}
 use Rattle.lists.specs.Cleared.{Cleared}
@@ -17,7 +18,8 @@ use Rattle.machine.specs.declared.Word.the-variants.{None}
 use Rattle.machine.specs.declared.HalfReport.{HalfReport}
 use Rattle.machine.specs.Machine.{Form, on, isOpen, blank, stage, freest, run}
 use Rattle.machine.specs.Report.{marked}
-use Rattle.machine.specs.Lists.{view, formsOf}
+use Rattle.machine.specs.Lists.{view, formOf, formsOf}
+use Rattle.machine.proofs.FormWords.{form-in, form-out}
 use Rattle.scans.specs.Rows.{RowLists, rowChecks}
 use Rattle.scans.specs.Scans.{countMarks}
 use Rattle.closing.specs.Closing.{LitClosed}
@@ -32,12 +34,16 @@ use Rattle.turns.proofs.Running.{run-failed}
 ----------------------------------------------------------------------
 -- The start
 
-blank-forms : (n : ℕ) (forms forms′ : List ℕ) → Cleared 0 n forms forms′ → formsOf n forms′ ≡ (λ q k. false)
+blank-forms : (n : ℕ) (forms forms′ : List ℕ) → Cleared 0 (4 * n) forms forms′ → formsOf n forms′ ≡ (λ q k. false)
 blank-forms n forms forms′ f =
-    fun-ext λ q. fun-ext λ k. ⊎-elim (λ (l : q < n). rw (lt-ltb q n l, f .inside q zero-le l) (bit-zero k)) (λ (l : n ≤ q). rw (le-ltb q n l) (bit-zero k)) (order q n)
+    fun-ext λ q. fun-ext λ k. ⊎-elim (λ (l : q < n). rw (lt-ltb q n l) (within q k l (order k 256))) (λ (l : n ≤ q). rw (le-ltb q n l)) (order q n)
+  where
+    within : (q k : ℕ) → q < n → (k < 256) ⊎ (256 ≤ k) → formOf forms′ q k ≡ false
+    within q k l (inl h) = form-in forms′ q k h ∙ ap (λ (x : ℕ). bit x (k % 64)) (f .inside (4 * q + k / 64) zero-le (omega arith)) ∙ bit-zero (k % 64)
+    within q k l (inr h) = form-out forms′ q k h
 
 module _ (n : ℕ) (c : RowLists) (budget limit : ℕ) (old : Working) (forms₁ : List ℕ) (told : Bool) (words : 10240 ≤ length (old .work)) (few : c .count ≤ 512)
-    (lit : c .first + c .count ≤ length (c .lit)) (cleared : Cleared 0 n (old .forms) forms₁) (tells : LitClosed (c .lit) (c .first) (c .count) (old .work) told) where
+    (lit : c .first + c .count ≤ length (c .lit)) (cleared : Cleared 0 (4 * n) (old .forms) forms₁) (tells : LitClosed (c .lit) (c .first) (c .count) (old .work) told) where
   abbrev o : Qubits
   o = isOpen (view n (old .marks))
 
@@ -112,40 +118,37 @@ ran-half n c budget limit old new e r v told =
 -- Sizes and lengths that fit, and the promise
 
 -- What the functions below ask.
-pub record Fitting (n : ℕ) (c : RowLists) (budget : ℕ) (l : Working) : Type 0 where
+pub record Fitting (n : ℕ) (c : RowLists) (l : Working) : Type 0 where
   pub size : n ≤ 1024
   pub marks : n ≤ length (l .marks)
-  pub forms : n ≤ length (l .forms)
+  pub forms : 4 * n ≤ length (l .forms)
   pub work : 10240 ≤ length (l .work)
   pub few : c .count ≤ 512
   pub lit : c .first + c .count ≤ length (c .lit)
   pub last : c .first + c .count ≤ 1024
-  pub budget-few : budget ≤ 63
 
-pub fits-out : (n : ℕ) (c : RowLists) (budget : ℕ) (l : Working) → fitting n c budget l ≡ true → Fitting n c budget l
+pub fits-out : (n : ℕ) (c : RowLists) (l : Working) → fitting n c l ≡ true → Fitting n c l
 unfolding fits?
-fits-out n c budget l t =
-    let b = and-out _ (leb n (length (l .forms))) t in
+fits-out n c l t =
+    let b = and-out _ (leb (4 * n) (length (l .forms))) t in
     let d = and-out _ (leb n (length (l .marks))) (b .0) in
     let e = and-out _ (leb (c .first + c .count) (length (c .lit))) (d .0) in
     let f = and-out _ (leb 10240 (length (l .work))) (e .0) in
-    let g = and-out _ (leb budget 63) (f .0) in
-    let h = and-out _ (leb (c .first) 512) (g .0) in
+    let h = and-out _ (leb (c .first) 512) (f .0) in
     let i = and-out (leb n 1024) (leb (c .count) 512) (h .0) in
     let first = leb-true (c .first) 512 (h .1) in
     let count = leb-true (c .count) 512 (i .1) in
     record {
       size = leb-true n 1024 (i .0);
       marks = leb-true n (length (l .marks)) (d .1);
-      forms = leb-true n (length (l .forms)) (b .1);
+      forms = leb-true (4 * n) (length (l .forms)) (b .1);
       work = leb-true 10240 (length (l .work)) (f .1);
       few = count;
       lit = leb-true (c .first + c .count) (length (c .lit)) (e .1);
       last = omega arith;
-      budget-few = leb-true budget 63 (g .1);
     }
 
-module _ (n : ℕ) (c : RowLists) (budget limit : ℕ) (old : Working) (told : Bool) (tells : told ≡ fitting n c budget old) where
+module _ (n : ℕ) (c : RowLists) (budget limit : ℕ) (old : Working) (told : Bool) (tells : told ≡ fitting n c old) where
   pub runs-refused : not told ≡ true → Runs n c budget limit old old Refused
   runs-refused e =
       record {
@@ -154,8 +157,8 @@ module _ (n : ℕ) (c : RowLists) (budget limit : ℕ) (old : Working) (told : B
         over = λ i. never i (sym tells ∙ not-out told e);
       }
 
-  pub does-fit : not told ≡ false → fitting n c budget old ≡ true
-  does-fit e = cases (fitting n c budget old) (λ y. y) (λ y. never (ap not (tells ∙ y)) e)
+  pub does-fit : not told ≡ false → fitting n c old ≡ true
+  does-fit e = cases (fitting n c old) (λ y. y) (λ y. never (ap not (tells ∙ y)) e)
 
   pub runs-over : not told ≡ false → (new : Working) (r : HalfReport) → RanHalf n c budget limit old new r → Runs n c budget limit old new (Over r)
   runs-over e new r v = record { stays = v .stays; refused = λ i. never (does-fit e) i; over = λ i. (r, refl, v .ran) }

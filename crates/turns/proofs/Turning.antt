@@ -1,26 +1,24 @@
 -- A qubit settled in the lists is one settled by the machine. Assumes nothing.
-use mathlib.Core.Path.{_≡_, refl, sym, ap, ap₂, _∙_, fun-ext, subst}
+use mathlib.Core.Path.{_≡_, refl, sym, ap, _∙_, fun-ext, subst}
 use mathlib.Core.Bool.{Bool, true, false, not, _&&_}
 use mathlib.Core.Option.{Option, none, some}
 use mathlib.Core.List.{List}
-use Prim.Native.Nat.{ℕ, suc, _+_, _*_, _%_, _^_, _≤_, _<_}
+use Prim.Native.Nat.{ℕ, suc, _+_, _*_, _≤_, _<_}
 use native.Mathlib.Numerals.{add-one}
 use native.Mathlib.Omega.{arith}
 use lib.Dec.{eqb}
 use lib.ListN.{length, getD, set}
 use lib.ListN.{length-set}
 use Rattle.binary.specs.Meaning.{Qubits, Row, Check, has}
-use Rattle.binary.specs.Words.{bit}
-use Rattle.binary.proofs.Bits.{bit as cases, never, eqb-sym, eqb-differ}
-use Rattle.binary.proofs.WordBits.{bit-pow, one-shl}
+use Rattle.binary.proofs.Bits.{bit as cases, never, eqb-differ}
 use Rattle.code.specs.Lists.{rowAt}
 use Rattle.forms.specs.declared.Taken.{Taken}
 use Rattle.forms.specs.declared.Taken.the-variants.{Live}
 use Rattle.machine.specs.Machine.{Form, Forms, put, isOpen, closed?, closing, side, takeUpAll, stage, settle}
 use Rattle.machine.specs.Lists.{view, formsOf}
-use Rattle.forms.specs.Forms.{withLive, Topped, TakenAs}
+use Rattle.forms.specs.Forms.{withLive, Topped, TakenAs, PutsSide, PutsGuess}
 use Rattle.turns.specs.Lists.{stateOf}
-use Rattle.forms.specs.Sides.{check, IsSide}
+use Rattle.forms.specs.Sides.{check}
 use Rattle.scans.specs.Rows.{RowLists, rowChecks, GoodRows}
 use Rattle.scans.proofs.Scanning.{open-below, view-set, rest-set}
 use Rattle.kept.specs.Kept.{Kept, RowsOn}
@@ -31,16 +29,10 @@ use Rattle.guessing.proofs.Room.{does-weigh}
 use Rattle.kept.proofs.Lowering.{not-has, has-open}
 use Rattle.closing.specs.Closing.{closedAt?, TakenRows, ClosingRows}
 use Rattle.closing.proofs.TakingRows.{never-live}
-use Rattle.turns.specs.Turns.{Working, isGuessed, Ready, StageAs, Turns, Turned, ToppedWord, settleBy, Settled, peelBy, guessBy}
+use Rattle.turns.specs.Turns.{Working, isGuessed, Ready, StageAs, Turns, Turned, Stays, settleBy, Settled, peelBy, guessBy}
 use Rattle.machine.proofs.Settling.{side-top}
+use Rattle.turns.proofs.Stays.{stays-on}
 use Rattle.machine.proofs.Stages.{open-put}
-
-----------------------------------------------------------------------
--- An element stored
-
-pub forms-set : (n : ℕ) (l : List ℕ) (p word : ℕ) → p < n → p < length l → formsOf n (set l p word) ≡ put p (bit word) (formsOf n l)
-forms-set n l p word i j =
-    ap {B = ℕ → Form} (λ (f : ℕ → ℕ) (q : ℕ). bit (f q)) (view-set n l p word i j) ∙ fun-ext (λ q. cases (eqb p q) (λ e. rw e) (λ e. rw e))
 
 ----------------------------------------------------------------------
 -- The rows that a turn closed
@@ -78,8 +70,8 @@ follows-renewed n c p weighed work work′ a b d e v =
 ----------------------------------------------------------------------
 -- A qubit settled
 
-module _ (n : ℕ) (c : RowLists) (old : Working) (forms′ work₁ work′ : List ℕ) (p m word live : ℕ) (weighed : Bool) (size : n ≤ 1024) (few : c .count ≤ 512) (below : p < n) (in-marks : p < length (old .marks))
-    (in-forms : p < length (old .forms)) (is-open : isOpen (view n (old .marks)) p ≡ true) (not-four : eqb m 4 ≡ false) (t : Taken) where
+module _ (n : ℕ) (c : RowLists) (old : Working) (forms′ work₁ work′ : List ℕ) (p m live : ℕ) (weighed : Bool) (size : n ≤ 1024) (few : c .count ≤ 512) (below : p < n) (in-marks : p < length (old .marks))
+    (is-open : isOpen (view n (old .marks)) p ≡ true) (not-four : eqb m 4 ≡ false) (t : Taken) where
   abbrev marks′ : List ℕ
   marks′ = set (old .marks) p m
 
@@ -105,35 +97,29 @@ module _ (n : ℕ) (c : RowLists) (old : Working) (forms′ work₁ work′ : Li
   topped-of none e k i = never-live k (sym e ∙ i)
   topped-of (some fs) e k i = let z : Live (fs .live) ≡ Live k = sym (e .0) ∙ i in let same : fs .live ≡ k = cc in subst (λ (l : ℕ). Topped n l forms′) same (e .2)
 
-  topped-set : Topped n live (old .forms) → ToppedWord live word → Topped n live (set (old .forms) p word)
-  topped-set top top-word q k l =
-      ap (λ (f : ℕ → Form). f q k) (forms-set n (old .forms) p word below in-forms) ∙ cases (eqb p q) (λ e. rw e (top-word k l)) (λ e. rw e (top q k l))
-
-  pub settled : ClosingRows n c p live (set (old .forms) p word) forms′ (old .work) work₁ t → Follows n c p weighed work₁ work′ → Settled n c p m word live weighed old new t
+  pub settled : ClosingRows n c p live (old .forms) forms′ (old .work) work₁ t → Follows n c p weighed work₁ work′ → Settled n c p m live weighed old new t
   unfolding settleBy
   settled v follows =
       record {
         stays = record {
           marks-long = length-set (old .marks) p m;
-          forms-long = v .forms-long ∙ length-set (old .forms) p word;
+          forms-long = v .forms-long;
           work-long = follows .alone .long ∙ v .work-long;
           marks-rest = rest-set n (old .marks) p m below;
-          forms-rest = λ q l. v .forms-rest q l ∙ rest-set n (old .forms) p word below q l;
+          forms-rest = v .forms-rest;
         };
-        turns = λ good ready plain top-word before.
-            turns-of good (v .rows good o is-open (ready .kept) (ready .on) (topped-set (ready .topped) top-word)) ready plain before;
+        turns = λ good ready plain before. turns-of good (v .rows good o is-open (ready .kept) (ready .on) (ready .topped)) ready plain before;
       }
     where
       taken : Option Forms
-      taken = takeUpAll (closing (view n (old .marks)) (put p m (view n (old .marks)))) (rowChecks c) (record { form = put p (bit word) (formsOf n (old .forms)); live = live })
+      taken = takeUpAll (closing (view n (old .marks)) (put p m (view n (old .marks)))) (rowChecks c) (withLive n (old .forms) live)
 
-      same : takeUpAll (closedAt? false p (put p false o)) (rowChecks c) (withLive n (set (old .forms) p word) live) ≡ taken
+      same : takeUpAll (closedAt? false p (put p false o)) (rowChecks c) (withLive n (old .forms) live) ≡ taken
       same =
-          ap₂ (λ (s : Check → Bool) (f : ℕ → Form). takeUpAll s (rowChecks c) (record { form = f; live = live }))
+          ap (λ (s : Check → Bool). takeUpAll s (rowChecks c) (withLive n (old .forms) live))
           (ap (closedAt? false p) (sym (open-put p m (view n (old .marks)) not-four)) ∙ sym (fun-ext (closing-test (view n (old .marks)) p m is-open not-four)))
-          (forms-set n (old .forms) p word below in-forms)
 
-      took-as : TakenRows n c p live o (set (old .forms) p word) forms′ work₁ t → TakenAs n forms′ taken t
+      took-as : TakenRows n c p live o (old .forms) forms′ work₁ t → TakenAs n forms′ taken t
       took-as w = subst (λ (r : Option Forms). TakenAs n forms′ r t) same (w .taken)
 
       still : (q : ℕ) → isOpen (view n marks′) q ≡ true → (o q ≡ true) × (q < 1024)
@@ -151,8 +137,8 @@ module _ (n : ℕ) (c : RowLists) (old : Working) (forms′ work₁ work′ : Li
       unguessed-then plain ready e q =
           ap (λ (f : ℕ → ℕ). eqb (f q) 3) (view-set n (old .marks) p m below in-marks) ∙ cases (eqb p q) (λ u. rw u (plain e)) (λ u. rw u (ready .unguessed e q))
 
-      turns-of : GoodRows n c → TakenRows n c p live o (set (old .forms) p word) forms′ work₁ t → Ready n c live weighed old → (weighed ≡ false → eqb m 3 ≡ false)
-          → (before : ℕ) → Turns n c before weighed (settleBy n c p m word live) old new t
+      turns-of : GoodRows n c → TakenRows n c p live o (old .forms) forms′ work₁ t → Ready n c live weighed old → (weighed ≡ false → eqb m 3 ≡ false)
+          → (before : ℕ) → Turns n c before weighed (settleBy n c p m live) old new t
       turns-of good w ready plain before =
           record {
             comes = λ turns. stage-as (suc turns) taken (took-as w);
@@ -169,58 +155,68 @@ module _ (n : ℕ) (c : RowLists) (old : Working) (forms′ work₁ work′ : Li
           }
 
 ----------------------------------------------------------------------
--- Peeling and guessing
+-- Peeling and guessing: the qubit's form is put, then it is settled
 
--- A side has no bit above the live guesses.
-pub side-topped : (n live : ℕ) (forms : List ℕ) (c : Check) (word : ℕ) → Topped n live forms → IsSide n forms c word → ToppedWord live word
-side-topped n live forms c word top s k l = s .bits k ∙ side-top (withLive n forms 0) c k (λ q. top q k l) (omega arith)
+module _ (n : ℕ) (c : RowLists) (p : ℕ) (old : Working) (forms₁ : List ℕ) (f : Form) (put-as : formsOf n forms₁ ≡ put p f (formsOf n (old .forms))) where
+  abbrev mid : Working
+  mid = record { marks = old .marks; forms = forms₁; work = old .work }
 
--- The word of a new guess has its bit alone.
-pub guess-bit : (g live : ℕ) → g ≡ live + 1 → live < 63 → (k : ℕ) → bit (1 * 2 ^ g % 2 ^ 64) k ≡ eqb k (suc live)
-guess-bit g live e l k =
-    ap (λ (x : ℕ). bit x k) (one-shl g (omega arith)) ∙ bit-pow g k ∙ eqb-sym g k ∙ ap (eqb k) (e ∙ add-one live)
+  -- The form has no bit above the live guesses either.
+  mid-ready : (live more : ℕ) (weighed : Bool) → live ≤ more → ((k : ℕ) → more < k → f k ≡ false) → Ready n c live weighed old → Ready n c more weighed mid
+  mid-ready live more weighed l top ready =
+      record {
+        topped = λ q k i. ap (λ (g : ℕ → Form). g q k) put-as ∙ cases (eqb p q) (λ e. rw e (top k i)) (λ e. rw e (ready .topped q k (omega arith)));
+        kept = ready .kept;
+        on = ready .on;
+        weights = ready .weights;
+        unguessed = ready .unguessed;
+      }
 
--- No form has a bit above one guess more.
-pub topped-more : (n live more : ℕ) (forms : List ℕ) → live ≤ more → Topped n live forms → Topped n more forms
-topped-more n live more forms l top q k i = top q k (omega arith)
+  -- The machine puts the form as it settles the qubit.
+  as-put : (m live : ℕ) (new : Working) (t : Taken) (turns before : ℕ) → StageAs n new (suc turns) t (settleBy n c p m live (stateOf n (old .marks) forms₁ before turns))
+      → StageAs n new (suc turns) t (settle (rowChecks c) (stateOf n (old .marks) (old .forms) before turns) p m (record { form = put p f (formsOf n (old .forms)); live = live }))
+  unfolding settleBy
+  as-put m live new t turns before =
+      subst (λ (g : ℕ → Form). StageAs n new (suc turns) t (settle (rowChecks c) (stateOf n (old .marks) (old .forms) before turns) p m (record { form = g; live = live }))) put-as
 
--- The side's word is the form that the machine gives the qubit.
-pub peel-turned : (n : ℕ) (c : RowLists) (p r live word : ℕ) (weighed : Bool) (row : Row) (old new : Working) (t : Taken) → row ≡ rowAt (c .flat) (c .ends) r
-    → IsSide n (old .forms) (check (eqb (getD (c .lit) r 0) 1) row) word → Settled n c p 2 word live weighed old new t → Turned n c live weighed (peelBy n c p r) old new t
-unfolding settleBy peelBy
-peel-turned n c p r live word weighed row old new t e s v =
-    record {
-      stays = v .stays;
-      turns = λ good ready.
-          let w = v .turns good ready (λ u. refl) (side-topped n live (old .forms) (check (eqb (getD (c .lit) r 0) 1) row) word (ready .topped) s) live in
-          record {
-            comes = λ turns.
-                subst (λ (f : Form). StageAs n new (suc turns) t
-                (settle (rowChecks c) (stateOf n (old .marks) (old .forms) live turns) p 2 (record { form = put p f (formsOf n (old .forms)); live = live })))
-                (fun-ext (subst (λ (x : Row). (k : ℕ) → bit word k ≡ side (withLive n (old .forms) 0) (check (eqb (getD (c .lit) r 0) 1) x) k) e (s .bits))) (w .comes turns);
-            ready = w .ready;
-          };
-    }
+stays-put : (n : ℕ) (old new : Working) (forms₁ : List ℕ) → length forms₁ ≡ length (old .forms) → ((i : ℕ) → 4 * n ≤ i → getD forms₁ i 0 ≡ getD (old .forms) i 0)
+    → Stays n (record { marks = old .marks; forms = forms₁; work = old .work }) new → Stays n old new
+stays-put n old new forms₁ long rest v =
+    stays-on n old (record { marks = old .marks; forms = forms₁; work = old .work }) new
+    (record { marks-long = refl; forms-long = long; work-long = refl; marks-rest = λ q h. refl; forms-rest = rest }) v
 
-pub guess-turned : (n : ℕ) (c : RowLists) (p live newest word : ℕ) (old new : Working) (t : Taken) → newest ≡ live + 1 → live < 63
-    → word ≡ 1 * 2 ^ newest % 2 ^ 64 → Settled n c p 3 word newest true old new t → Turned n c live true (guessBy n c p) old new t
-unfolding settleBy guessBy
-guess-turned n c p live newest word old new t e l i v =
-    record {
-      stays = v .stays;
-      turns = λ good ready.
-          let more : Ready n c newest true old
-          = record { topped = topped-more n live newest (old .forms) (omega arith) (ready .topped); kept = ready .kept; on = ready .on; weights = ready .weights; unguessed = ready .unguessed } in
-          let bits : (k : ℕ) → bit word k ≡ eqb k (suc live) = λ k. ap (λ (x : ℕ). bit x k) i ∙ guess-bit newest live e l k in
-          let w = v .turns good more (λ u. never refl u) (λ k j. bits k ∙ eqb-differ k (suc live) (λ u. absurd (omega arith))) live in
-          record {
-            comes = λ turns.
-                subst (λ (f : Form). StageAs n new (suc turns) t
-                (settle (rowChecks c) (stateOf n (old .marks) (old .forms) live turns) p 3 (record { form = put p f (formsOf n (old .forms)); live = suc live })))
-                (fun-ext bits)
-                (subst (λ (m : ℕ). StageAs n new (suc turns) t
-                (settle (rowChecks c) (stateOf n (old .marks) (old .forms) live turns) p 3 (record { form = put p (bit word) (formsOf n (old .forms)); live = m })))
-                (e ∙ add-one live) (w .comes turns));
-            ready = w .ready;
-          };
-    }
+module _ (n : ℕ) (c : RowLists) (p live : ℕ) (old new : Working) (forms₁ : List ℕ) (t : Taken) (below : p < n) (room : 4 * n ≤ length (old .forms)) where
+  pub peel-turned : (r : ℕ) (weighed : Bool) (row : Row) → row ≡ rowAt (c .flat) (c .ends) r → PutsSide n (check (eqb (getD (c .lit) r 0) 1) row) live p (old .forms) forms₁
+      → Settled n c p 2 live weighed (record { marks = old .marks; forms = forms₁; work = old .work }) new t → Turned n c live weighed (peelBy n c p r) old new t
+  unfolding peelBy
+  peel-turned r weighed row e puts v =
+      record {
+        stays = stays-put n old new forms₁ (puts .long) (puts .rest) (v .stays);
+        turns = λ good ready.
+            let was : formsOf n forms₁ ≡ put p (sideOf (rowAt (c .flat) (c .ends) r)) (formsOf n (old .forms))
+            = puts .puts below room (ready .topped) ∙ ap (λ (x : Row). put p (sideOf x) (formsOf n (old .forms))) e in
+            let top : (k : ℕ) → live < k → sideOf (rowAt (c .flat) (c .ends) r) k ≡ false = λ k l. side-top (withLive n (old .forms) live) (check (eqb (getD (c .lit) r 0) 1) (rowAt (c .flat) (c .ends) r)) k (λ q. ready .topped q k l) (omega arith) in
+            let w = v .turns good (mid-ready n c p old forms₁ (sideOf (rowAt (c .flat) (c .ends) r)) was live live weighed (omega arith) top ready) (λ u. refl) live in
+            record { comes = λ turns. as-put n c p old forms₁ (sideOf (rowAt (c .flat) (c .ends) r)) was 2 live new t turns live (w .comes turns); ready = w .ready };
+      }
+    where
+      sideOf : Row → Form
+      sideOf x = side (withLive n (old .forms) live) (check (eqb (getD (c .lit) r 0) 1) x)
+
+  pub guess-turned : (newest : ℕ) → newest ≡ live + 1 → live < 255 → PutsGuess n newest p (old .forms) forms₁
+      → Settled n c p 3 newest true (record { marks = old .marks; forms = forms₁; work = old .work }) new t → Turned n c live true (guessBy n c p) old new t
+  unfolding guessBy
+  guess-turned newest e l puts v =
+      record {
+        stays = stays-put n old new forms₁ (puts .long) (puts .rest) (v .stays);
+        turns = λ good ready.
+            let was = puts .puts below room (omega arith) (λ q k i. ready .topped q k (omega arith)) in
+            let w = v .turns good (mid-ready n c p old forms₁ (λ k. eqb k newest) was live newest true (omega arith) (λ k i. eqb-differ k newest (λ u. absurd (omega arith))) ready) (λ u. never refl u) live in
+            record {
+              comes = λ turns.
+                  subst (λ (g : ℕ). StageAs n new (suc turns) t
+                  (settle (rowChecks c) (stateOf n (old .marks) (old .forms) live turns) p 3 (record { form = put p (λ k. eqb k g) (formsOf n (old .forms)); live = g })))
+                  (e ∙ add-one live) (as-put n c p old forms₁ (λ k. eqb k newest) was 3 newest new t turns live (w .comes turns));
+              ready = w .ready;
+            };
+      }

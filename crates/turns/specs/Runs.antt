@@ -5,12 +5,12 @@
 --   TurnedHalf  the turns: how the half ended
 --   reportBy    the report of a half, counted from its marks
 --   Ran         the report and the lists are those of an end
---   fits?       whether sizes, budget and lists are such that the turns are made
+--   fits?       whether sizes and lists are such that the turns are made
 --   Runs        the promise of `run_turns`
 use mathlib.Core.Path.{_≡_}
 use mathlib.Core.Bool.{Bool, true, false, _&&_}
 use mathlib.Core.List.{List}
-use Prim.Native.Nat.{ℕ, suc, _+_}
+use Prim.Native.Nat.{ℕ, suc, _+_, _*_}
 use lib.Dec.{leb}
 use lib.ListN.{length}
 use Rattle.scans.specs.Rows.{RowLists, rowChecks, GoodRows}
@@ -65,17 +65,17 @@ pub record RanHalf (n : ℕ) (c : RowLists) (budget limit : ℕ) (old new : Work
   pub ran : Begins n c old → Ran n c new r (endOf n c budget limit old)
 
 -- Of the lengths of the lists.
-unfoldable pub fits? : ℕ → ℕ → ℕ → ℕ → ℕ → ℕ → ℕ → ℕ → Bool
-fits? n lit first count budget work marks forms =
-    leb n 1024 && leb count 512 && leb first 512 && leb budget 63 && leb 10240 work && leb (first + count) lit && leb n marks && leb n forms
+unfoldable pub fits? : ℕ → ℕ → ℕ → ℕ → ℕ → ℕ → ℕ → Bool
+fits? n lit first count work marks forms =
+    leb n 1024 && leb count 512 && leb first 512 && leb 10240 work && leb (first + count) lit && leb n marks && leb (4 * n) forms
 
-abbrev pub fitting : ℕ → RowLists → ℕ → Working → Bool
-fitting n c budget l = fits? n (length (c .lit)) (c .first) (c .count) budget (length (l .work)) (length (l .marks)) (length (l .forms))
+abbrev pub fitting : ℕ → RowLists → Working → Bool
+fitting n c l = fits? n (length (c .lit)) (c .first) (c .count) (length (l .work)) (length (l .marks)) (length (l .forms))
 
--- For every input lists keep their lengths, marks and forms what is past n. Where sizes and lists fit, the turns are made: of rows that are strictly
+-- For every input lists keep their lengths, marks what is past n and forms what is past 4 × n. Where sizes and lists fit, the turns are made: of rows that are strictly
 -- ascending and below n, and of what is kept of them, as the machine makes them. Otherwise nothing is written.
 pub record Runs (n : ℕ) (c : RowLists) (budget limit : ℕ) (old new : Working) (r : RunAnswer) : Type 0 where
   pub stays : Stays n old new
-  pub refused : fitting n c budget old ≡ false → (r ≡ Refused) × (new ≡ old)
-  pub over : fitting n c budget old ≡ true
+  pub refused : fitting n c old ≡ false → (r ≡ Refused) × (new ≡ old)
+  pub over : fitting n c old ≡ true
       → (e : HalfReport) × (r ≡ Over e) × (Begins n c old → Ran n c new e (endOf n c budget limit old))

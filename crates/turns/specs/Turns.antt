@@ -12,12 +12,11 @@ use mathlib.Core.Path.{_≡_}
 use mathlib.Core.Bool.{Bool, true, false, not, _&&_}
 use mathlib.Core.Option.{none}
 use mathlib.Core.List.{List}
-use Prim.Native.Nat.{ℕ, suc, _≤_, _<_}
+use Prim.Native.Nat.{ℕ, suc, _*_, _≤_, _<_}
 use lib.Dec.{eqb}
 use lib.ListN.{length, getD}
 use Rattle.binary.specs.Bits.{below}
 use Rattle.binary.specs.Meaning.{Qubits}
-use Rattle.binary.specs.Words.{bit}
 use Rattle.forms.specs.declared.Taken.{Taken}
 use Rattle.forms.specs.declared.Taken.the-variants.{Failed, Live}
 use Rattle.scans.specs.Rows.{RowLists, rowsIn, checkAt, rowChecks, GoodRows}
@@ -25,7 +24,7 @@ use Rattle.kept.specs.Kept.{Kept, RowsOn}
 use Rattle.turns.specs.declared.Move.{Move}
 use Rattle.turns.specs.declared.Move.the-variants.{Spent, Made}
 use Rattle.turns.specs.declared.Ended.{Ended}
-use Rattle.machine.specs.Machine.{State, Stage, on, failed, End, put, isOpen, dangling, some?, freest, settle, peel, guess, turn, run}
+use Rattle.machine.specs.Machine.{State, Stage, on, failed, End, isOpen, dangling, some?, freest, settle, peel, guess, turn, run}
 use Rattle.machine.specs.Report.{none?}
 use Rattle.machine.specs.Lists.{view, formsOf}
 use Rattle.forms.specs.Forms.{Topped}
@@ -37,13 +36,13 @@ pub record Working : Type 0 where
   pub forms : List ℕ
   pub work : List ℕ
 
--- Lengths, and elements past n, stay.
+-- Lengths stay, and elements past n; of the forms those past 4 × n.
 pub record Stays (n : ℕ) (old new : Working) : Type 0 where
   pub marks-long : length (new .marks) ≡ length (old .marks)
   pub forms-long : length (new .forms) ≡ length (old .forms)
   pub work-long : length (new .work) ≡ length (old .work)
   pub marks-rest : (q : ℕ) → n ≤ q → getD (new .marks) q 0 ≡ getD (old .marks) q 0
-  pub forms-rest : (q : ℕ) → n ≤ q → getD (new .forms) q 0 ≡ getD (old .forms) q 0
+  pub forms-rest : (i : ℕ) → 4 * n ≤ i → getD (new .forms) i 0 ≡ getD (old .forms) i 0
 
 abbrev pub isGuessed : ℕ → List ℕ → ℕ → Bool
 isGuessed n marks q = eqb (view n marks q) 3
@@ -73,19 +72,15 @@ pub record Turned (n : ℕ) (c : RowLists) (live : ℕ) (weighed : Bool) (next :
   pub stays : Stays n old new
   pub turns : GoodRows n c → Ready n c live weighed old → Turns n c live weighed next old new t
 
--- The word has no bit above the live guesses.
-abbrev pub ToppedWord : ℕ → ℕ → Type 0
-ToppedWord live word = (k : ℕ) → live < k → bit word k ≡ false
-
--- Qubit p gets mark m and the form of a word.
-unfoldable pub settleBy : ℕ → RowLists → ℕ → ℕ → ℕ → ℕ → State → Stage
-settleBy n c p m word live st = settle (rowChecks c) st p m (record { form = put p (bit word) (st .forms .form); live = live })
+-- Qubit p, which has its form, gets mark m.
+unfoldable pub settleBy : ℕ → RowLists → ℕ → ℕ → ℕ → State → Stage
+settleBy n c p m live st = settle (rowChecks c) st p m (record { form = st .forms .form; live = live })
 
 -- So many guesses were live before, and are now. A guess needs the weights.
-pub record Settled (n : ℕ) (c : RowLists) (p m word live : ℕ) (weighed : Bool) (old new : Working) (t : Taken) : Type 0 where
+pub record Settled (n : ℕ) (c : RowLists) (p m live : ℕ) (weighed : Bool) (old new : Working) (t : Taken) : Type 0 where
   pub stays : Stays n old new
-  pub turns : GoodRows n c → Ready n c live weighed old → (weighed ≡ false → eqb m 3 ≡ false) → ToppedWord live word
-      → (before : ℕ) → Turns n c before weighed (settleBy n c p m word live) old new t
+  pub turns : GoodRows n c → Ready n c live weighed old → (weighed ≡ false → eqb m 3 ≡ false)
+      → (before : ℕ) → Turns n c before weighed (settleBy n c p m live) old new t
 
 -- Row r gives its open qubit p its side.
 unfoldable pub peelBy : ℕ → RowLists → ℕ → ℕ → State → Stage

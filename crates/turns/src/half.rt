@@ -1,6 +1,6 @@
 // A half from the marks of its start to its report.
 ghost use mathlib.Core.Path.{_≡_};
-ghost use Prim.Native.Nat.{_+_, _≤_};
+ghost use Prim.Native.Nat.{_+_, _*_, _≤_};
 ghost use lib.ListN.{length};
 ghost use Rattle.turns.specs.Runs.{TurnedHalf, reportBy, RanHalf};
 use crate::Ended;
@@ -22,12 +22,11 @@ fn turn_half(
     marks: &mut [u8],
     forms: &mut [u64],
 ) -> Ended
-    requires { ⌜ (n ≤ 1024) × (n ≤ length (now marks)) × (n ≤ length (now forms)) × (10240 ≤ length (now work)) × (rows .count ≤ 512) × (rows .first .0 + rows .count ≤ length (now lit)) × (rows .first .0 + rows .count ≤ 1024) ⌝ }
-    requires { ⌜ budget ≤ 63 ⌝ }
+    requires { ⌜ (n ≤ 1024) × (n ≤ length (now marks)) × (4 * n ≤ length (now forms)) × (10240 ≤ length (now work)) × (rows .count ≤ 512) × (rows .first .0 + rows .count ≤ length (now lit)) × (rows .first .0 + rows .count ≤ 1024) ⌝ }
     ensures { λ r. ⌜ TurnedHalf n (record { flat = now (flat .entry); ends = now (ends .entry); lit = now (lit .entry); first = rows .first .0; count = rows .count }) budget limit (record { marks = now (marks .entry); forms = now (forms .entry); work = now (work .entry) }) (record { marks = now (marks .exit); forms = now (forms .exit); work = now (work .exit) }) r ⌝ }
 {
     let size = n as usize;
-    lists::clear_words(forms, 0, size);
+    lists::clear_words(forms, 0, 4 * size);
     if closing::lit_closed(lit, rows, work) {
         return Ended {
             word: Word::None,
@@ -81,8 +80,7 @@ pub fn run_marked(
     marks: &mut [u8],
     forms: &mut [u64],
 ) -> HalfReport
-    requires { ⌜ (n ≤ 1024) × (n ≤ length (now marks)) × (n ≤ length (now forms)) × (10240 ≤ length (now work)) × (rows .count ≤ 512) × (rows .first .0 + rows .count ≤ length (now lit)) × (rows .first .0 + rows .count ≤ 1024) ⌝ }
-    requires { ⌜ budget ≤ 63 ⌝ }
+    requires { ⌜ (n ≤ 1024) × (n ≤ length (now marks)) × (4 * n ≤ length (now forms)) × (10240 ≤ length (now work)) × (rows .count ≤ 512) × (rows .first .0 + rows .count ≤ length (now lit)) × (rows .first .0 + rows .count ≤ 1024) ⌝ }
     ensures { λ r. ⌜ RanHalf n (record { flat = now (flat .entry); ends = now (ends .entry); lit = now (lit .entry); first = rows .first .0; count = rows .count }) budget limit (record { marks = now (marks .entry); forms = now (forms .entry); work = now (work .entry) }) (record { marks = now (marks .exit); forms = now (forms .exit); work = now (work .exit) }) r ⌝ }
 {
     let ended = turn_half(n, flat, ends, lit, rows, budget, limit, work, marks, forms);

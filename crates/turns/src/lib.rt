@@ -35,19 +35,18 @@ fn fits(
     n: u16,
     lit: &[u8],
     rows: Rows,
-    budget: u8,
     work: &[u64],
     marks: &[u8],
     forms: &[u64],
 ) -> bool
-    ensures { λ r. ⌜ r ≡ fits? n (length (now (lit .entry))) (rows .first .0) (rows .count) budget (length (now (work .entry))) (length (now (marks .entry))) (length (now (forms .entry))) ⌝ }
+    ensures { λ r. ⌜ r ≡ fits? n (length (now (lit .entry))) (rows .first .0) (rows .count) (length (now (work .entry))) (length (now (marks .entry))) (length (now (forms .entry))) ⌝ }
 {
     let size = n as usize;
     let first = rows.first;
     let last = first.0 as usize + rows.count as usize;
-    let small = (n <= 1024) & (rows.count <= 512) & (first.0 <= 512) & (budget <= 63);
+    let small = (n <= 1024) & (rows.count <= 512) & (first.0 <= 512);
     let long = small & (10240 <= work.len()) & (last <= lit.len());
-    long & (size <= marks.len()) & (size <= forms.len())
+    long & (size <= marks.len()) & (4 * size <= forms.len())
 }
 
 // From the marks of the start, and what is kept of the rows over them, the closed rows are taken up; then turns are made until a test before a turn ends
@@ -66,7 +65,7 @@ pub fn run_turns(
 ) -> RunAnswer
     ensures { λ r. ⌜ Runs n (record { flat = now (flat .entry); ends = now (ends .entry); lit = now (lit .entry); first = rows .first .0; count = rows .count }) budget limit (record { marks = now (marks .entry); forms = now (forms .entry); work = now (work .entry) }) (record { marks = now (marks .exit); forms = now (forms .exit); work = now (work .exit) }) r ⌝ }
 {
-    if !fits(n, lit, rows, budget, work, marks, forms) {
+    if !fits(n, lit, rows, work, marks, forms) {
         return RunAnswer::Refused;
     }
     RunAnswer::Over(half::run_marked(n, flat, ends, lit, rows, budget, limit, work, marks, forms))

@@ -1,7 +1,7 @@
 // The turns of a half.
 ghost use mathlib.Core.Path.{_≡_};
 ghost use mathlib.Core.Bool.{true, false};
-ghost use Prim.Native.Nat.{_+_, _≤_, _<_};
+ghost use Prim.Native.Nat.{_+_, _*_, _≤_, _<_};
 ghost use lib.Dec.{eqb};
 ghost use lib.ListN.{length};
 ghost use Rattle.machine.specs.Machine.{isOpen};
@@ -18,7 +18,7 @@ use forms::Taken;
 use guessing::Choice;
 use machine::Word;
 
-// The open qubit p gets a mark and a form; then the rows that this turn closed are taken up, and the weights follow, if they are kept.
+// The open qubit p, whose form is put, gets a mark; then the rows that this turn closed are taken up, and the weights follow, if they are kept.
 fn settle(
     n: usize,
     flat: &[u16],
@@ -27,20 +27,18 @@ fn settle(
     rows: Rows,
     p: Qubit,
     mark: u8,
-    form: u64,
     live: u16,
     weighed: bool,
     work: &mut [u64],
     marks: &mut [u8],
     forms: &mut [u64],
 ) -> Taken
-    requires { ⌜ (n ≤ 1024) × (n ≤ length (now marks)) × (n ≤ length (now forms)) × (10240 ≤ length (now work)) × (rows .count ≤ 512) × (rows .first .0 + rows .count ≤ length (now lit)) × (rows .first .0 + rows .count ≤ 1024) ⌝ }
+    requires { ⌜ (n ≤ 1024) × (n ≤ length (now marks)) × (4 * n ≤ length (now forms)) × (10240 ≤ length (now work)) × (rows .count ≤ 512) × (rows .first .0 + rows .count ≤ length (now lit)) × (rows .first .0 + rows .count ≤ 1024) ⌝ }
     requires { ⌜ (p .0 < n) × (isOpen (view n (now marks)) (p .0) ≡ true) × (eqb mark 4 ≡ false) ⌝ }
-    ensures { λ t. ⌜ Settled n (record { flat = now (flat .entry); ends = now (ends .entry); lit = now (lit .entry); first = rows .first .0; count = rows .count }) (p .0) mark form live weighed (record { marks = now (marks .entry); forms = now (forms .entry); work = now (work .entry) }) (record { marks = now (marks .exit); forms = now (forms .exit); work = now (work .exit) }) t ⌝ }
+    ensures { λ t. ⌜ Settled n (record { flat = now (flat .entry); ends = now (ends .entry); lit = now (lit .entry); first = rows .first .0; count = rows .count }) (p .0) mark live weighed (record { marks = now (marks .entry); forms = now (forms .entry); work = now (work .entry) }) (record { marks = now (marks .exit); forms = now (forms .exit); work = now (work .exit) }) t ⌝ }
 {
     let at = p.0 as usize;
     marks[at] = mark;
-    forms[at] = form;
     let taken = closing::close_rows(n, flat, ends, lit, rows, p, live, work, forms);
     if weighed {
         guessing::renew(n, flat, ends, rows, p, work);
@@ -63,13 +61,13 @@ fn peel(
     marks: &mut [u8],
     forms: &mut [u64],
 ) -> Taken
-    requires { ⌜ (n ≤ 1024) × (n ≤ length (now marks)) × (n ≤ length (now forms)) × (10240 ≤ length (now work)) × (rows .count ≤ 512) × (rows .first .0 + rows .count ≤ length (now lit)) × (rows .first .0 + rows .count ≤ 1024) ⌝ }
+    requires { ⌜ (n ≤ 1024) × (n ≤ length (now marks)) × (4 * n ≤ length (now forms)) × (10240 ≤ length (now work)) × (rows .count ≤ 512) × (rows .first .0 + rows .count ≤ length (now lit)) × (rows .first .0 + rows .count ≤ 1024) ⌝ }
     requires { ⌜ (p .0 < n) × (isOpen (view n (now marks)) (p .0) ≡ true) × (r .0 < length (now lit)) ⌝ }
     ensures { λ t. ⌜ Turned n (record { flat = now (flat .entry); ends = now (ends .entry); lit = now (lit .entry); first = rows .first .0; count = rows .count }) live weighed (peelBy n (record { flat = now (flat .entry); ends = now (ends .entry); lit = now (lit .entry); first = rows .first .0; count = rows .count }) (p .0) (r .0)) (record { marks = now (marks .entry); forms = now (forms .entry); work = now (work .entry) }) (record { marks = now (marks .exit); forms = now (forms .exit); work = now (work .exit) }) t ⌝ }
 {
     let row = code::row_at(flat, ends, r);
     let at = r.0 as usize;
-    let side = forms::side_of(n, row, lit[at] == 1, forms);
+    forms::put_side(n, row, lit[at] == 1, live, p, forms);
     settle(
         n,
         flat,
@@ -78,7 +76,6 @@ fn peel(
         rows,
         p,
         2,
-        side,
         live,
         weighed,
         work,
@@ -100,11 +97,12 @@ fn guess(
     marks: &mut [u8],
     forms: &mut [u64],
 ) -> Taken
-    requires { ⌜ (n ≤ 1024) × (n ≤ length (now marks)) × (n ≤ length (now forms)) × (10240 ≤ length (now work)) × (rows .count ≤ 512) × (rows .first .0 + rows .count ≤ length (now lit)) × (rows .first .0 + rows .count ≤ 1024) ⌝ }
-    requires { ⌜ (p .0 < n) × (isOpen (view n (now marks)) (p .0) ≡ true) × (live < 63) ⌝ }
+    requires { ⌜ (n ≤ 1024) × (n ≤ length (now marks)) × (4 * n ≤ length (now forms)) × (10240 ≤ length (now work)) × (rows .count ≤ 512) × (rows .first .0 + rows .count ≤ length (now lit)) × (rows .first .0 + rows .count ≤ 1024) ⌝ }
+    requires { ⌜ (p .0 < n) × (isOpen (view n (now marks)) (p .0) ≡ true) × (live < 255) ⌝ }
     ensures { λ t. ⌜ Turned n (record { flat = now (flat .entry); ends = now (ends .entry); lit = now (lit .entry); first = rows .first .0; count = rows .count }) live true (guessBy n (record { flat = now (flat .entry); ends = now (ends .entry); lit = now (lit .entry); first = rows .first .0; count = rows .count }) (p .0)) (record { marks = now (marks .entry); forms = now (forms .entry); work = now (work .entry) }) (record { marks = now (marks .exit); forms = now (forms .exit); work = now (work .exit) }) t ⌝ }
 {
     let newest = live + 1;
+    forms::put_guess(n, newest, p, forms);
     settle(
         n,
         flat,
@@ -113,7 +111,6 @@ fn guess(
         rows,
         p,
         3,
-        1 << newest,
         newest,
         true,
         work,
@@ -145,8 +142,8 @@ fn guess_freest(
     marks: &mut [u8],
     forms: &mut [u64],
 ) -> Move
-    requires { ⌜ (n ≤ 1024) × (n ≤ length (now marks)) × (n ≤ length (now forms)) × (10240 ≤ length (now work)) × (rows .count ≤ 512) × (rows .first .0 + rows .count ≤ length (now lit)) × (rows .first .0 + rows .count ≤ 1024) ⌝ }
-    requires { ⌜ live < 63 ⌝ }
+    requires { ⌜ (n ≤ 1024) × (n ≤ length (now marks)) × (4 * n ≤ length (now forms)) × (10240 ≤ length (now work)) × (rows .count ≤ 512) × (rows .first .0 + rows .count ≤ length (now lit)) × (rows .first .0 + rows .count ≤ 1024) ⌝ }
+    requires { ⌜ live < 255 ⌝ }
     ensures { λ m. ⌜ Guessed n (record { flat = now (flat .entry); ends = now (ends .entry); lit = now (lit .entry); first = rows .first .0; count = rows .count }) live weighed (record { marks = now (marks .entry); forms = now (forms .entry); work = now (work .entry) }) (record { marks = now (marks .exit); forms = now (forms .exit); work = now (work .exit) }) m ⌝ }
 {
     let size = n as usize;
@@ -173,8 +170,8 @@ fn make_turn(
     marks: &mut [u8],
     forms: &mut [u64],
 ) -> Move
-    requires { ⌜ (n ≤ 1024) × (n ≤ length (now marks)) × (n ≤ length (now forms)) × (10240 ≤ length (now work)) × (rows .count ≤ 512) × (rows .first .0 + rows .count ≤ length (now lit)) × (rows .first .0 + rows .count ≤ 1024) ⌝ }
-    requires { ⌜ budget ≤ 63 ⌝ }
+    requires { ⌜ (n ≤ 1024) × (n ≤ length (now marks)) × (4 * n ≤ length (now forms)) × (10240 ≤ length (now work)) × (rows .count ≤ 512) × (rows .first .0 + rows .count ≤ length (now lit)) × (rows .first .0 + rows .count ≤ 1024) ⌝ }
+    requires { ⌜ budget ≤ 255 ⌝ }
     ensures { λ m. ⌜ Moved n (record { flat = now (flat .entry); ends = now (ends .entry); lit = now (lit .entry); first = rows .first .0; count = rows .count }) budget live weighed (record { marks = now (marks .entry); forms = now (forms .entry); work = now (work .entry) }) (record { marks = now (marks .exit); forms = now (forms .exit); work = now (work .exit) }) m ⌝ }
 {
     let i = kept::lowest(rows.count, work);
@@ -242,8 +239,8 @@ pub fn run(
     marks: &mut [u8],
     forms: &mut [u64],
 ) -> Ended
-    requires { ⌜ (n ≤ 1024) × (n ≤ length (now marks)) × (n ≤ length (now forms)) × (10240 ≤ length (now work)) × (rows .count ≤ 512) × (rows .first .0 + rows .count ≤ length (now lit)) × (rows .first .0 + rows .count ≤ 1024) ⌝ }
-    requires { ⌜ (budget ≤ 63) × (unsettled ≡ marked n (view n (now marks)) 4) ⌝ }
+    requires { ⌜ (n ≤ 1024) × (n ≤ length (now marks)) × (4 * n ≤ length (now forms)) × (10240 ≤ length (now work)) × (rows .count ≤ 512) × (rows .first .0 + rows .count ≤ length (now lit)) × (rows .first .0 + rows .count ≤ 1024) ⌝ }
+    requires { ⌜ (budget ≤ 255) × (unsettled ≡ marked n (view n (now marks)) 4) ⌝ }
     ensures { λ r. ⌜ RunEnds n (record { flat = now (flat .entry); ends = now (ends .entry); lit = now (lit .entry); first = rows .first .0; count = rows .count }) budget limit 0 (record { marks = now (marks .entry); forms = now (forms .entry); work = now (work .entry) }) (record { marks = now (marks .exit); forms = now (forms .exit); work = now (work .exit) }) r ⌝ }
 {
     let mut live: u16 = 0;

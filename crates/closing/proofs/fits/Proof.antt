@@ -1,5 +1,5 @@
 -- `closing::fits` meets its contract. Assumes nothing.
-use mathlib.Core.Path.{refl}
+use Rattle.machine.proofs.FormWords.{four-words}
 use Rattle.closing.specs.Closing.{fits?}
 use borrow.Author.Needs.{needs}
 use Rattle.closing.proofs.fits.Statement.{statement}
@@ -16,7 +16,7 @@ add-last c = search needs
 
 returns : tie.Need-returns
 unfolding fits?
-returns c = refl
+returns c = rw (← four-words)
 
 pub fits-spec : {M : Type 1} → statement M
 fits-spec = tie.close (tie.spec cast-last cast-last-2 add-last returns)

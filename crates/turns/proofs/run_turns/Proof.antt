@@ -21,15 +21,15 @@ same-length-3 c = search needs
 returns : tie.Need-returns
 returns c =
     let old : Working = record { marks = c .before .before .before .before .before .before .before .before .before .before .before .args .marks .now; forms = c .before .before .before .before .before .before .before .before .before .before .before .args .forms .now; work = c .before .before .before .before .before .before .before .before .before .before .before .args .work .now } in
-    runs-refused _ _ _ _ old _ (c .before .fits2 .ensures) (c .if1 .taken)
+    runs-refused _ _ (c .before .before .before .before .before .before .before .before .before .before .before .args .budget) _ old _ (c .before .fits2 .ensures) (c .if1 .taken)
 
 run-marked-requires : tie.Need-run-marked-requires
 run-marked-requires c κs =
     let old : Working = record { marks = c .before .before .before .before .before .before .before .before .before .before .before .before .before .before .args .marks .now; forms = c .before .before .before .before .before .before .before .before .before .before .before .before .before .before .args .forms .now; work = c .before .before .before .before .before .before .before .before .before .before .before .before .before .before .args .work .now } in
     let a = c .before .before .before .before .before .before .before .before .before .before .before .before .before .before .args in
     let r : RowLists = record { flat = a .flat .now; ends = a .ends .now; lit = a .lit .now; first = a .rows .first .0; count = a .rows .count } in
-    let v = fits-out _ r _ old (does-fit _ r _ (c .before .before .before .before .before .before .before .before .before .before .before .before .before .before .args .limit) old _ (c .before .before .before .before .fits2 .ensures) (c .before .before .before .if1 .left)) in
-    ((v .size, v .marks, v .forms, v .work, v .few, v .lit, v .last), v .budget-few)
+    let v = fits-out _ r old (does-fit _ r (c .before .before .before .before .before .before .before .before .before .before .before .before .before .before .args .budget) (c .before .before .before .before .before .before .before .before .before .before .before .before .before .before .args .limit) old _ (c .before .before .before .before .fits2 .ensures) (c .before .before .before .if1 .left)) in
+    (v .size, v .marks, v .forms, v .work, v .few, v .lit, v .last)
 
 same-length-4 : tie.Need-same-length-4
 same-length-4 c = c .before .before .before .before .before .before .run-marked .ensures .stays .work-long

@@ -9,7 +9,7 @@ turn-half-requires : tie.Need-turn-half-requires
 turn-half-requires c κs = c .before .before .before .before .before .before .before .before .before .pre
 
 report-requires : tie.Need-report-requires
-report-requires c κs = omega (arith, c .before .before .before .before .before .before .before .before .before .before .before .before .before .before .before .before .before .pre .0 .1, c .before .before .before .before .before .before .before .turn-half .ensures .stays .marks-long)
+report-requires c κs = omega (arith, c .before .before .before .before .before .before .before .before .before .before .before .before .before .before .before .before .before .pre .1, c .before .before .before .before .before .before .before .turn-half .ensures .stays .marks-long)
 
 same-length : tie.Need-same-length
 same-length c = c .before .before .before .before .before .before .before .before .turn-half .ensures .stays .work-long

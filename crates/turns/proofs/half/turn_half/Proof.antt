@@ -5,6 +5,9 @@ use borrow.Author.Needs.{needs}
 use Rattle.turns.proofs.half.turn_half.Statement.{statement}
 use Rattle.turns.proofs.half.turn_half.Tie as tie
 
+mul-clear-words : tie.Need-mul-clear-words
+mul-clear-words c = search needs
+
 clear-words-requires : tie.Need-clear-words-requires
 clear-words-requires c κs = search needs
 
@@ -19,7 +22,7 @@ same-length-2 c = search needs
 
 returns : tie.Need-returns
 returns c =
-    let p = c .before .before .before .before .before .before .before .before .before .before .before .before .before .pre .0 in
+    let p = c .before .before .before .before .before .before .before .before .before .before .before .before .before .pre in
     half-failed _ (record { flat = c .before .before .before .before .before .before .before .before .before .before .before .before .before .args .flat .now; ends = c .before .before .before .before .before .before .before .before .before .before .before .before .before .args .ends .now; lit = c .before .before .before .before .before .before .before .before .before .before .before .before .before .args .lit .now; first = c .before .before .before .before .before .before .before .before .before .before .before .before .before .args .rows .first .0; count = c .before .before .before .before .before .before .before .before .before .before .before .before .before .args .rows .count }) _ _ (record { marks = c .before .before .before .before .before .before .before .before .before .before .before .before .before .args .marks .now; forms = c .before .before .before .before .before .before .before .before .before .before .before .before .before .args .forms .now; work = c .before .before .before .before .before .before .before .before .before .before .before .before .before .args .work .now }) _ _ (p .3) (p .4) (p .5) (c .before .before .before .before .before .clear-words .ensures) (c .before .lit-closed .ensures) (c .if1 .taken)
 
 count-marks-requires : tie.Need-count-marks-requires
@@ -27,9 +30,10 @@ count-marks-requires c κs = search needs
 
 run-requires : tie.Need-run-requires
 run-requires c κs =
-    let p = c .before .before .before .before .before .before .before .before .before .before .before .before .before .before .before .before .before .before .pre .0 in (
+    let s = c .before .before .before .before .before .before .before .before .before .before .before .before .before .before .before .before .before .before in
+    let p = s .pre in (
       (p .0, p .1, omega (arith, p .2, c .before .before .before .before .before .before .before .before .before .before .clear-words .ensures .long), p .3, p .4, p .5, p .6),
-      (c .before .before .before .before .before .before .before .before .before .before .before .before .before .before .before .before .before .before .pre .1, counted-as _ (c .before .before .before .before .before .before .before .before .before .before .before .before .before .before .before .before .before .before .args .marks .now) 4 _ (p .1) (c .before .before .before .count-marks .ensures)),
+      (search needs, counted-as _ (s .args .marks .now) 4 _ (p .1) (c .before .before .before .count-marks .ensures)),
     )
 
 same-length-3 : tie.Need-same-length-3
@@ -43,13 +47,14 @@ same-length-5 c = search needs
 
 returns-2 : tie.Need-returns-2
 returns-2 c =
-    let p = c .before .before .before .before .before .before .before .before .before .before .before .before .before .before .before .before .before .before .before .before .before .before .before .before .before .pre .0 in
+    let p = c .before .before .before .before .before .before .before .before .before .before .before .before .before .before .before .before .before .before .before .before .before .before .before .before .before .pre in
     half-goes _ (record { flat = c .before .before .before .before .before .before .before .before .before .before .before .before .before .before .before .before .before .before .before .before .before .before .before .before .before .args .flat .now; ends = c .before .before .before .before .before .before .before .before .before .before .before .before .before .before .before .before .before .before .before .before .before .before .before .before .before .args .ends .now; lit = c .before .before .before .before .before .before .before .before .before .before .before .before .before .before .before .before .before .before .before .before .before .before .before .before .before .args .lit .now; first = c .before .before .before .before .before .before .before .before .before .before .before .before .before .before .before .before .before .before .before .before .before .before .before .before .before .args .rows .first .0; count = c .before .before .before .before .before .before .before .before .before .before .before .before .before .before .before .before .before .before .before .before .before .before .before .before .before .args .rows .count }) _ _ (record { marks = c .before .before .before .before .before .before .before .before .before .before .before .before .before .before .before .before .before .before .before .before .before .before .before .before .before .args .marks .now; forms = c .before .before .before .before .before .before .before .before .before .before .before .before .before .before .before .before .before .before .before .before .before .before .before .before .before .args .forms .now; work = c .before .before .before .before .before .before .before .before .before .before .before .before .before .before .before .before .before .before .before .before .before .before .before .before .before .args .work .now }) _ _ (p .3) (p .4) (p .5) (c .before .before .before .before .before .before .before .before .before .before .before .before .before .before .before .before .before .clear-words .ensures) (c .before .before .before .before .before .before .before .before .before .before .before .before .before .lit-closed .ensures) (c .before .before .before .before .before .before .before .before .before .before .before .before .if1 .left) _ _ (c .before .before .before .before .before .before .run .ensures)
 
 pub turn-half-spec : {M : Type 1} → statement M
 turn-half-spec =
     tie.close
     (tie.spec
+    mul-clear-words
     clear-words-requires
     lit-closed-requires
     same-length

@@ -1,5 +1,6 @@
 -- `turns::turns::peel` meets its contract. Assumes nothing.
-use mathlib.Core.Path.{refl}
+use mathlib.Core.Path.{refl, _∙_}
+use native.Mathlib.Omega.{arith}
 use Rattle.turns.proofs.Turning.{peel-turned}
 use borrow.Author.Needs.{needs}
 use Rattle.turns.proofs.turns.peel.Statement.{statement}
@@ -11,14 +12,17 @@ row-at-requires c κs = search needs
 cast-at : tie.Need-cast-at
 cast-at c = search needs
 
-shared-slice-read-side-of : tie.Need-shared-slice-read-side-of
-shared-slice-read-side-of c = search needs
+shared-slice-read-put-side : tie.Need-shared-slice-read-put-side
+shared-slice-read-put-side c = search needs
 
-side-of-requires : tie.Need-side-of-requires
-side-of-requires c κs = search needs
+put-side-requires : tie.Need-put-side-requires
+put-side-requires c κs = search needs
 
 settle-requires : tie.Need-settle-requires
-settle-requires c κs = (c .before .before .before .before .before .before .before .before .before .before .before .before .before .before .pre .0, (c .before .before .before .before .before .before .before .before .before .before .before .before .before .before .pre .1 .0, c .before .before .before .before .before .before .before .before .before .before .before .before .before .before .pre .1 .1, refl))
+settle-requires c κs =
+    let s = c .before .before .before .before .before .before .before .before .before .before .before .before .before .before .before .before in
+    let p = s .pre .0 in
+    ((p .0, p .1, omega (arith, p .2, c .before .before .before .before .before .put-side .ensures .long), p .3, p .4, p .5, p .6), (s .pre .1 .0, s .pre .1 .1, refl))
 
 same-length : tie.Need-same-length
 same-length c = c .before .before .before .before .before .before .settle .ensures .stays .work-long
@@ -27,12 +31,12 @@ same-length-2 : tie.Need-same-length-2
 same-length-2 c = c .before .before .before .before .before .before .settle .ensures .stays .marks-long
 
 same-length-3 : tie.Need-same-length-3
-same-length-3 c = c .before .before .before .before .before .before .settle .ensures .stays .forms-long
+same-length-3 c = c .before .before .before .before .before .before .settle .ensures .stays .forms-long ∙ c .before .before .before .before .before .before .before .before .before .before .before .before .put-side .ensures .long
 
 returns : tie.Need-returns
 returns c =
-    let start = c .before .before .before .before .before .before .before .before .before .before .before .before .before .before .before .before .before .before .before .before .before in
-    peel-turned _ _ _ _ _ _ _ _ (record { marks = start .args .marks .now; forms = start .args .forms .now; work = start .args .work .now }) _ _ (c .before .before .before .before .before .before .before .before .before .before .before .before .before .before .row-at .ensures) (c .before .before .before .before .before .before .before .before .before .before .side-of .ensures) (c .before .before .before .before .before .before .settle .ensures)
+    let s = c .before .before .before .before .before .before .before .before .before .before .before .before .before .before .before .before .before .before .before .before .before .before .before in
+    peel-turned _ _ _ _ (record { marks = s .args .marks .now; forms = s .args .forms .now; work = s .args .work .now }) _ _ _ (s .pre .1 .0) (s .pre .0 .2) _ _ _ (c .before .before .before .before .before .before .before .before .before .before .before .before .before .before .before .before .row-at .ensures) (c .before .before .before .before .before .before .before .before .before .before .before .before .put-side .ensures) (c .before .before .before .before .before .before .settle .ensures)
 
 pub peel-spec : {M : Type 1} → statement M
 peel-spec =
@@ -40,8 +44,8 @@ peel-spec =
     (tie.spec
     row-at-requires
     cast-at
-    shared-slice-read-side-of
-    side-of-requires
+    shared-slice-read-put-side
+    put-side-requires
     settle-requires
     same-length
     same-length-2
