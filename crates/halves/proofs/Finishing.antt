@@ -3,7 +3,7 @@ use mathlib.Core.Path.{_≡_, refl, _∙_}
 use mathlib.Core.Bool.{true, false, cond}
 use mathlib.Core.Logic.{inr}
 use mathlib.Core.List.{List}
-use Prim.Native.Nat.{ℕ, _%_, zero-le}
+use Prim.Native.Nat.{ℕ, _*_, _%_, zero-le}
 use lib.ListN.{getD}
 use Rattle.binary.proofs.Bits.{never}
 use Rattle.machine.specs.declared.Word.{Word}
@@ -37,31 +37,31 @@ module _ (n : ℕ) (w : Word) (marks forms correction : List ℕ) where
   Done marks′ forms′ correction′ =
       Finished n w (record { marks = marks; forms = forms; correction = correction }) (record { marks = marks′; forms = forms′; correction = correction′ })
 
-  kept : (l : List ℕ) → none? w ≡ false → Filled (λ q. cond (none? w) 0 (getD l q 0)) n l l
-  kept l e = same-filled (λ q. cond (none? w) 0 (getD l q 0)) n l (λ q. rw e)
+  kept : (m : ℕ) (l : List ℕ) → none? w ≡ false → Filled (λ q. cond (none? w) 0 (getD l q 0)) m l l
+  kept m l e = same-filled (λ q. cond (none? w) 0 (getD l q 0)) m l (λ q. rw e)
 
-  pub finish-flips : (correction′ : List ℕ) → finished? w ≡ true → Filled (λ q. getD forms q 0 % 2) n correction correction′ → Done marks forms correction′
+  pub finish-flips : (correction′ : List ℕ) → finished? w ≡ true → Filled (λ q. getD forms (4 * q) 0 % 2) n correction correction′ → Done marks forms correction′
   finish-flips correction′ e f =
       record {
-        marks = kept marks (not-none w e);
-        forms = kept forms (not-none w e);
-        correction = as-filled (λ q. getD forms q 0 % 2) (λ q. cond (finished? w) (getD forms q 0 % 2) 0) n correction correction′ (λ q. rw e) f;
+        marks = kept n marks (not-none w e);
+        forms = kept (4 * n) forms (not-none w e);
+        correction = as-filled (λ q. getD forms (4 * q) 0 % 2) (λ q. cond (finished? w) (getD forms (4 * q) 0 % 2) 0) n correction correction′ (λ q. rw e) f;
       }
 
   module _ (correction′ : List ℕ) (e : finished? w ≡ false) (d : Cleared 0 n correction correction′) where
     f : Filled (λ q. 0) n correction correction′
     f = zero-filled n correction correction′ d
 
-    blank : Filled (λ q. cond (finished? w) (getD forms q 0 % 2) 0) n correction correction′
-    blank = as-filled (λ q. 0) (λ q. cond (finished? w) (getD forms q 0 % 2) 0) n correction correction′ (λ q. rw e) f
+    blank : Filled (λ q. cond (finished? w) (getD forms (4 * q) 0 % 2) 0) n correction correction′
+    blank = as-filled (λ q. 0) (λ q. cond (finished? w) (getD forms (4 * q) 0 % 2) 0) n correction correction′ (λ q. rw e) f
 
     pub finish-open : none? w ≡ false → Done marks forms correction′
-    finish-open i = record { marks = kept marks i; forms = kept forms i; correction = blank }
+    finish-open i = record { marks = kept n marks i; forms = kept (4 * n) forms i; correction = blank }
 
-    pub finish-none : (marks′ forms′ : List ℕ) → none? w ≡ true → Cleared 0 n marks marks′ → Cleared 0 n forms forms′ → Done marks′ forms′ correction′
+    pub finish-none : (marks′ forms′ : List ℕ) → none? w ≡ true → Cleared 0 n marks marks′ → Cleared 0 (4 * n) forms forms′ → Done marks′ forms′ correction′
     finish-none marks′ forms′ i m g =
         record {
           marks = as-filled (λ q. 0) (λ q. cond (none? w) 0 (getD marks q 0)) n marks marks′ (λ q. rw i) (zero-filled n marks marks′ m);
-          forms = as-filled (λ q. 0) (λ q. cond (none? w) 0 (getD forms q 0)) n forms forms′ (λ q. rw i) (zero-filled n forms forms′ g);
+          forms = as-filled (λ q. 0) (λ q. cond (none? w) 0 (getD forms q 0)) (4 * n) forms forms′ (λ q. rw i) (zero-filled (4 * n) forms forms′ g);
           correction = blank;
         }

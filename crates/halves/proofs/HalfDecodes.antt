@@ -3,10 +3,10 @@ use mathlib.Core.Path.{_≡_, refl, sym, ap, ap₂, _∙_, fun-ext, subst}
 use mathlib.Core.Bool.{Bool, true, false, not, _&&_, cond}
 use mathlib.Core.Logic.{⊎-elim}
 use mathlib.Core.List.{List}
-use Prim.Native.Nat.{ℕ, _+_, _/_, _%_, _^_, _≤_, _<_}
+use Prim.Native.Nat.{ℕ, _+_, _*_, _/_, _%_, _^_, _≤_, _<_}
 use native.Mathlib.Nat.{div-one, eq-zero-or-pos}
 use native.Mathlib.Omega.{arith}
-use lib.Dec.{eqb, leb}
+use lib.Dec.{eqb, ltb, leb}
 use lib.ListN.{length, getD}
 use borrow.Author.Tests.{lt-ltb, le-ltb, le-leb, leb-true}
 use Rattle.binary.specs.Words.{bit, listed}
@@ -22,7 +22,8 @@ use Rattle.machine.specs.Words.{finished?}
 use Rattle.machine.specs.Machine.{Form, End, isOpen, decoded}
 use Rattle.machine.specs.Fillings.{filling}
 use Rattle.machine.specs.Report.{none?, shown}
-use Rattle.machine.specs.Lists.{view, HalfLists, digit, Shows, Past}
+use Rattle.machine.specs.Lists.{view, formOf, HalfLists, digit, Shows, Past}
+use Rattle.machine.proofs.FormWords.{form-in, form-out, form-at as form-at-word}
 use Rattle.halves.specs.Decode.{Given, ownRows, fitting, Decodes}
 use Rattle.turns.specs.declared.RunAnswer.{RunAnswer}
 use Rattle.turns.specs.declared.RunAnswer.the-variants.{Over}
@@ -65,27 +66,41 @@ module _ (n : ℕ) (c : RowLists) (mid : Working) (correction : List ℕ) (new :
   at : (l : List ℕ) (q : ℕ) → q < n → view n l q ≡ getD l q 0
   at l q i = rw (lt-ltb q n i)
 
-  form-at : none? (e .word) ≡ false → (q : ℕ) → q < n → (k : ℕ) → bit (getD (mid .forms) q 0) k ≡ e .state .forms .form q k
-  form-at j q i k = ap (λ (x : ℕ). bit x k) (sym (at (mid .forms) q i)) ∙ ap (λ (g : ℕ → Form). g q k) (v .forms j)
+  form-at : none? (e .word) ≡ false → (q : ℕ) → q < n → (k : ℕ) → formOf (mid .forms) q k ≡ e .state .forms .form q k
+  form-at j q i k = let t : ltb q n ≡ true = lt-ltb q n i in rw t at (ap (λ (g : ℕ → Form). g q k) (v .forms j))
 
   marks-shown : (q : ℕ) → q < n → getD (new .marks) q 0 ≡ cond (none? (e .word)) 0 (e .state .mark q)
   marks-shown q i =
       f .marks .first q i
       ∙ ap₂ (λ (w : Word) (x : ℕ). cond (none? w) 0 x) word (sym (at (mid .marks) q i) ∙ ap (λ (g : ℕ → ℕ). g q) (v .marks))
 
-  forms-shown : (q : ℕ) → q < n → (k : ℕ) → bit (getD (new .forms) q 0) k ≡ (not (none? (e .word)) && e .state .forms .form q k)
-  forms-shown q i k =
-      ap (λ (x : ℕ). bit x k) (f .forms .first q i ∙ ap (λ (w : Word). cond (none? w) 0 (getD (mid .forms) q 0)) word)
-      ∙ cases (none? (e .word)) (λ j. rw j (bit-zero k)) (λ j. rw j (form-at j q i k))
+  -- The words of a form, if it is not none.
+  words-shown : (q : ℕ) → q < n → (k : ℕ) → k < 256 → getD (new .forms) (4 * q + k / 64) 0 ≡ cond (none? (e .word)) 0 (getD (mid .forms) (4 * q + k / 64) 0)
+  words-shown q i k l = f .forms .first (4 * q + k / 64) (omega arith) ∙ ap (λ (w : Word). cond (none? w) 0 (getD (mid .forms) (4 * q + k / 64) 0)) word
+
+  forms-shown : (q : ℕ) → q < n → (k : ℕ) → formOf (new .forms) q k ≡ (not (none? (e .word)) && e .state .forms .form q k)
+  forms-shown q i k = ⊎-elim (λ (l : k < 256). inside l) (λ (l : 256 ≤ k). outside l) (order k 256)
+    where
+      inside : k < 256 → formOf (new .forms) q k ≡ (not (none? (e .word)) && e .state .forms .form q k)
+      inside l =
+          form-in (new .forms) q k l ∙ ap (λ (x : ℕ). bit x (k % 64)) (words-shown q i k l)
+          ∙ cases (none? (e .word)) (λ j. rw j (bit-zero (k % 64))) (λ j. rw j (sym (form-in (mid .forms) q k l) ∙ form-at j q i k))
+
+      outside : 256 ≤ k → formOf (new .forms) q k ≡ (not (none? (e .word)) && e .state .forms .form q k)
+      outside l =
+          form-out (new .forms) q k l ∙ cases (none? (e .word)) (λ j. rw j) (λ j. rw j (sym (form-out (mid .forms) q k l) ∙ form-at j q i k))
 
   flips-shown : (q : ℕ) → q < n → getD (new .correction) q 0
       ≡ digit (finished? (e .word) && filling (e .state .forms .live) (e .state .forms .form) (λ k. false) q)
   flips-shown q i =
-      f .correction .first q i ∙ ap (λ (w : Word). cond (finished? w) (getD (mid .forms) q 0 % 2) 0) word
+      f .correction .first q i ∙ ap (λ (w : Word). cond (finished? w) (getD (mid .forms) (4 * q) 0 % 2) 0) word
       ∙ cases (finished? (e .word))
-      (λ j. rw j (digit-constant (getD (mid .forms) q 0)
-      ∙ ap digit (form-at (not-none (e .word) j) q i 0 ∙ sym (value-off (e .state .forms .live) (e .state .forms .form q)))))
+      (λ j. rw j (digit-constant (getD (mid .forms) (4 * q) 0)
+      ∙ ap digit (constant q ∙ form-at (not-none (e .word) j) q i 0 ∙ sym (value-off (e .state .forms .live) (e .state .forms .form q)))))
       (λ j. rw j)
+    where
+      constant : (q : ℕ) → bit (getD (mid .forms) (4 * q) 0) 0 ≡ formOf (mid .forms) q 0
+      constant q = let z : 4 * q + 0 ≡ 4 * q = omega arith in ap (λ (x : ℕ). bit (getD (mid .forms) x 0) 0) (sym z) ∙ sym (form-at-word (mid .forms) q 0 0 (omega arith) (omega arith))
 
   -- At any end but none the marks stay, and with them what is kept of the rows.
   marks-stay : none? (e .word) ≡ false → view n (mid .marks) ≡ view n (new .marks)
@@ -102,9 +117,9 @@ module _ (n : ℕ) (c : RowLists) (mid : Working) (correction : List ℕ) (new :
         weights = subst (λ (m : ℕ → ℕ). (q : ℕ) → eqb (m q) 3 ≡ true → Weighed (isOpen m) c (mid .work)) (marks-stay j) (w .weights);
       }
 
-  pub ended-shows : (old : HalfLists) → Past n old new → Shows n (shown n e) old new
+  pub ended-shows : (old : HalfLists) → Past n old new → ((i : ℕ) → getD (new .forms) i 0 < 2 ^ 64) → Shows n (shown n e) old new
   unfolding shown
-  ended-shows old past = record { marks = marks-shown; forms = forms-shown; correction = flips-shown; past = past }
+  ended-shows old past wide = record { marks = marks-shown; forms = forms-shown; words = λ i l. wide i; correction = flips-shown; past = past }
 
 -- Sizes and lists that fit the decode fit its start.
 pub start-fits : (n lost lit first count other others work marks : ℕ) → n ≤ 1024 → count ≤ 512 → others ≤ 512 → first ≤ 512 → other ≤ 512 → 10240 ≤ work → n ≤ lost → first + count ≤ lit
@@ -124,11 +139,11 @@ none-guessed n c lost other others work marks b q = ap (λ (m : ℕ → ℕ). eq
 
 pub half-done : (n : ℕ) (c : RowLists) (lost : List ℕ) (other others budget limit : ℕ) (marks marks₁ forms correction work work₁ : List ℕ) (mid : Working) (new : HalfLists)
     (a : RunAnswer) (r : HalfReport) → Starts n c lost other others work work₁ marks marks₁ → starts.fitting n c lost other others work marks ≡ true
-    → Runs n c budget limit (record { marks = marks₁; forms = forms; work = work₁ }) mid a → runs.fitting n c budget (record { marks = marks₁; forms = forms; work = work₁ }) ≡ true
-    → a ≡ Over r → Finished n (r .word) (record { marks = mid .marks; forms = mid .forms; correction = correction }) new
+    → Runs n c budget limit (record { marks = marks₁; forms = forms; work = work₁ }) mid a → runs.fitting n c (record { marks = marks₁; forms = forms; work = work₁ }) ≡ true
+    → a ≡ Over r → Finished n (r .word) (record { marks = mid .marks; forms = mid .forms; correction = correction }) new → ((i : ℕ) → getD (new .forms) i 0 < 2 ^ 64)
     → HalfDone n c lost other others budget limit (mid .work) (record { marks = marks; forms = forms; correction = correction }) new r
 unfolding shown
-half-done n c lost other others budget limit marks marks₁ forms correction work work₁ mid new a r starts can-start v fits told f =
+half-done n c lost other others budget limit marks marks₁ forms correction work work₁ mid new a r starts can-start v fits told f wide =
     record {
       lengths = record {
         marks = f .marks .long ∙ v .stays .marks-long ∙ starts .marks-long;
@@ -136,7 +151,7 @@ half-done n c lost other others budget limit marks marks₁ forms correction wor
         correction = f .correction .long;
       };
       past = past;
-      shows = λ obey. let w = ran obey in (w .report, ended-shows n c mid correction new r e w f (record { marks = marks; forms = forms; correction = correction }) past);
+      shows = λ obey. let w = ran obey in (w .report, ended-shows n c mid correction new r e w f (record { marks = marks; forms = forms; correction = correction }) past wide);
       kept = λ obey. ended-kept n c mid correction new r e (ran obey) f;
     }
   where
@@ -165,43 +180,42 @@ half-done n c lost other others budget limit marks marks₁ forms correction wor
     past = past-stays n marks forms correction work mid (r .word) new stays f
 
 -- Sizes and lists that fit the decode fit its turns.
-pub turns-fit : (n lit first count budget work marks forms : ℕ) → n ≤ 1024 → count ≤ 512 → first ≤ 512 → budget ≤ 63 → 10240 ≤ work → first + count ≤ lit
-    → n ≤ marks → n ≤ forms → runs.fits? n lit first count budget work marks forms ≡ true
+pub turns-fit : (n lit first count work marks forms : ℕ) → n ≤ 1024 → count ≤ 512 → first ≤ 512 → 10240 ≤ work → first + count ≤ lit
+    → n ≤ marks → 4 * n ≤ forms → runs.fits? n lit first count work marks forms ≡ true
 unfolding runs.fits?
-turns-fit n lit first count budget work marks forms a b d e f g h i =
-    and-in (and-in (and-in (and-in (and-in (and-in (and-in (le-leb _ _ a) (le-leb _ _ b)) (le-leb _ _ d)) (le-leb _ _ e)) (le-leb _ _ f)) (le-leb _ _ g)) (le-leb _ _ h)) (le-leb _ _ i)
+turns-fit n lit first count work marks forms a b d f g h i =
+    and-in (and-in (and-in (and-in (and-in (and-in (le-leb _ _ a) (le-leb _ _ b)) (le-leb _ _ d)) (le-leb _ _ f)) (le-leb _ _ g)) (le-leb _ _ h)) (le-leb _ _ i)
 
 pub turns-made : {C : Type 0} (n : ℕ) (c : RowLists) (budget limit : ℕ) (old new : Working) (a : RunAnswer) → Runs n c budget limit old new a
-    → runs.fitting n c budget old ≡ true → a ≡ turns-answer.Refused → C
+    → runs.fitting n c old ≡ true → a ≡ turns-answer.Refused → C
 turns-made n c budget limit old new a v fits e = let o = v .over fits in let f = o .1 in let z : _≡_ {A = ℕ} 0 1 = cc in absurd (omega arith)
 
 ----------------------------------------------------------------------
 -- Sizes and lengths that fit
 
-module _ (n lost lit first count other others budget work marks forms correction : ℕ) where
+module _ (n lost lit first count other others work marks forms correction : ℕ) where
   -- What the test says, in the order of its parts.
-  pub fits-out : fits? n lost lit first count other others budget work marks forms correction ≡ true
-      → ((n ≤ 1024) × (count ≤ 512) × (others ≤ 512) × (first ≤ 512) × (other ≤ 512) × (10240 ≤ work) × (budget ≤ 63))
-      × ((n ≤ lost) × (first + count ≤ lit) × (n ≤ marks) × (n ≤ forms) × (n ≤ correction))
+  pub fits-out : fits? n lost lit first count other others work marks forms correction ≡ true
+      → ((n ≤ 1024) × (count ≤ 512) × (others ≤ 512) × (first ≤ 512) × (other ≤ 512) × (10240 ≤ work))
+      × ((n ≤ lost) × (first + count ≤ lit) × (n ≤ marks) × (4 * n ≤ forms) × (n ≤ correction))
   unfolding fits?
   fits-out t =
       let a = and-out _ (leb n correction) t in
-      let b = and-out _ (leb n forms) (a .0) in
+      let b = and-out _ (leb (4 * n) forms) (a .0) in
       let c = and-out _ (leb n marks) (b .0) in
       let d = and-out _ (leb (first + count) lit) (c .0) in
       let e = and-out _ (leb n lost) (d .0) in
       let f = and-out _ (leb 10240 work) (e .0) in
-      let g = and-out _ (leb budget 63) (f .0) in
-      let h = and-out _ (leb other 512) (g .0) in
+      let h = and-out _ (leb other 512) (f .0) in
       let i = and-out _ (leb first 512) (h .0) in
       let j = and-out _ (leb others 512) (i .0) in
       let k = and-out (leb n 1024) (leb count 512) (j .0) in (
-        (leb-true n 1024 (k .0), leb-true count 512 (k .1), leb-true others 512 (j .1), leb-true first 512 (i .1), leb-true other 512 (h .1), leb-true 10240 work (f .1), leb-true budget 63 (g .1)),
-        (leb-true n lost (e .1), leb-true (first + count) lit (d .1), leb-true n marks (c .1), leb-true n forms (b .1), leb-true n correction (a .1)),
+        (leb-true n 1024 (k .0), leb-true count 512 (k .1), leb-true others 512 (j .1), leb-true first 512 (i .1), leb-true other 512 (h .1), leb-true 10240 work (f .1)),
+        (leb-true n lost (e .1), leb-true (first + count) lit (d .1), leb-true n marks (c .1), leb-true (4 * n) forms (b .1), leb-true n correction (a .1)),
       )
 
 pub fitting-is : (g : Given) (work : ℕ) (l : HalfLists) → fitting g work l
-    ≡ fits? (g .n) (length (g .lost)) (length (g .lit)) (g .first) (g .count) (g .other) (g .others) (g .budget) work (length (l .marks)) (length (l .forms)) (length (l .correction))
+    ≡ fits? (g .n) (length (g .lost)) (length (g .lit)) (g .first) (g .count) (g .other) (g .others) work (length (l .marks)) (length (l .forms)) (length (l .correction))
 unfolding fitting fits?
 fitting-is g work l = refl
 
@@ -209,7 +223,7 @@ fitting-is g work l = refl
 -- The promise
 
 module _ (g : Given) (work : List ℕ) (old : HalfLists) (told : Bool)
-    (tells : told ≡ fits? (g .n) (length (g .lost)) (length (g .lit)) (g .first) (g .count) (g .other) (g .others) (g .budget) (length work) (length (old .marks)) (length (old .forms)) (length (old .correction))) where
+    (tells : told ≡ fits? (g .n) (length (g .lost)) (length (g .lit)) (g .first) (g .count) (g .other) (g .others) (length work) (length (old .marks)) (length (old .forms)) (length (old .correction))) where
   pub decodes-refused : told ≡ false → Decodes g work work old old Refused
   decodes-refused e =
       record {

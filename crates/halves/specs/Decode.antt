@@ -1,12 +1,12 @@
 -- What the decode of one half promises (document 01, "Lists lent to a decode").
 --   Given       what a half is decoded from
 --   ownRows     the half's own rows in its lists, with their readings
---   fitting     whether sizes, budget and lists are such that the half is decoded
+--   fitting     whether sizes and lists are such that the half is decoded
 --   Decodes     the promise
 use mathlib.Core.Path.{_≡_}
 use mathlib.Core.Bool.{Bool, true, false, _&&_}
 use mathlib.Core.List.{List}
-use Prim.Native.Nat.{ℕ, _+_}
+use Prim.Native.Nat.{ℕ, _+_, _*_}
 use lib.Dec.{leb}
 use lib.ListN.{length}
 use Rattle.halves.specs.declared.HalfAnswer.{HalfAnswer}
@@ -39,11 +39,11 @@ ownRows g = record { flat = g .flat; ends = g .ends; lit = g .lit; first = g .fi
 -- The sizes are document 01's, and the lists are long enough.
 unfoldable pub fitting : Given → ℕ → HalfLists → Bool
 fitting g work l =
-    leb (g .n) 1024 && leb (g .count) 512 && leb (g .others) 512 && leb (g .first) 512 && leb (g .other) 512 && leb (g .budget) 63
+    leb (g .n) 1024 && leb (g .count) 512 && leb (g .others) 512 && leb (g .first) 512 && leb (g .other) 512
     && leb 10240 work && leb (g .n) (length (g .lost)) && leb (g .first + g .count) (length (g .lit))
-    && leb (g .n) (length (l .marks)) && leb (g .n) (length (l .forms)) && leb (g .n) (length (l .correction))
+    && leb (g .n) (length (l .marks)) && leb (4 * g .n) (length (l .forms)) && leb (g .n) (length (l .correction))
 
--- For every input the lists keep their lengths and what is past n. Where sizes and lists fit, the half is decoded: of rows that are strictly ascending and
+-- For every input the lists keep their lengths and what is past n, the forms what is past 4 × n. Where sizes and lists fit, the half is decoded: of rows that are strictly ascending and
 -- below n, and commute, as those of an accepted code are, the answer and the lists are what the machine makes of code, shot, budget and limit, and at any end but
 -- none the work list holds what is kept of the half's own rows, a fresh count over the marks (document 02, request b), and where a qubit was guessed
 -- the weights of the open qubits (request g). Otherwise nothing is written.

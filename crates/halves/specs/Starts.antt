@@ -7,7 +7,7 @@
 use mathlib.Core.Path.{_≡_}
 use mathlib.Core.Bool.{Bool, false, _&&_, cond}
 use mathlib.Core.List.{List}
-use Prim.Native.Nat.{ℕ, _+_, _%_}
+use Prim.Native.Nat.{ℕ, _+_, _*_, _%_}
 use lib.Dec.{leb}
 use lib.ListN.{getD}
 use Rattle.binary.specs.Meaning.{All, Commute}
@@ -34,17 +34,17 @@ halfIn n c lost other others = halfOf n (c .flat) (c .ends) lost (c .lit) (c .fi
 -- By the word: marks and forms stay, or are 0 after none; the correction is the constants of a finished half's forms, and else 0.
 pub record Finished (n : ℕ) (word : Word) (old new : HalfLists) : Type 0 where
   pub marks : Filled (λ q. cond (none? word) 0 (getD (old .marks) q 0)) n (old .marks) (new .marks)
-  pub forms : Filled (λ q. cond (none? word) 0 (getD (old .forms) q 0)) n (old .forms) (new .forms)
-  pub correction : Filled (λ q. cond (finished? word) (getD (old .forms) q 0 % 2) 0) n (old .correction) (new .correction)
+  pub forms : Filled (λ i. cond (none? word) 0 (getD (old .forms) i 0)) (4 * n) (old .forms) (new .forms)
+  pub correction : Filled (λ q. cond (finished? word) (getD (old .forms) (4 * q) 0 % 2) 0) n (old .correction) (new .correction)
 
 ----------------------------------------------------------------------
 -- The whole
 
 -- Sizes, and the lengths of the lists.
-unfoldable pub fits? : ℕ → ℕ → ℕ → ℕ → ℕ → ℕ → ℕ → ℕ → ℕ → ℕ → ℕ → ℕ → Bool
-fits? n lost lit first count other others budget work marks forms correction =
-    leb n 1024 && leb count 512 && leb others 512 && leb first 512 && leb other 512 && leb budget 63
-    && leb 10240 work && leb n lost && leb (first + count) lit && leb n marks && leb n forms && leb n correction
+unfoldable pub fits? : ℕ → ℕ → ℕ → ℕ → ℕ → ℕ → ℕ → ℕ → ℕ → ℕ → ℕ → Bool
+fits? n lost lit first count other others work marks forms correction =
+    leb n 1024 && leb count 512 && leb others 512 && leb first 512 && leb other 512
+    && leb 10240 work && leb n lost && leb (first + count) lit && leb n marks && leb (4 * n) forms && leb n correction
 
 -- The half's own rows and the other kind's are strictly ascending and below n, and commute.
 pub record RowsObey (n : ℕ) (c : RowLists) (other others : ℕ) : Type 0 where

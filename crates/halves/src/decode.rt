@@ -1,6 +1,6 @@
 // The decode of a half: its start, its turns, and what it leaves in its lists.
 ghost use mathlib.Core.Path.{_≡_};
-ghost use Prim.Native.Nat.{_+_, _≤_};
+ghost use Prim.Native.Nat.{_+_, _*_, _≤_};
 ghost use lib.ListN.{length};
 ghost use Rattle.machine.specs.Report.{none?};
 ghost use Rattle.halves.specs.Starts.{Finished, fits?, HalfDone};
@@ -25,7 +25,7 @@ fn is_none(word: Word) -> bool
 
 // What a half leaves in its lists by its word: the correction of a finished one, none of another; after none, nothing at all.
 fn finish(n: usize, word: Word, marks: &mut [u8], forms: &mut [u64], correction: &mut [u8])
-    requires { ⌜ (n ≤ length (now marks)) × (n ≤ length (now forms)) × (n ≤ length (now correction)) ⌝ }
+    requires { ⌜ (n ≤ length (now marks)) × (4 * n ≤ length (now forms)) × (n ≤ length (now correction)) ⌝ }
     ensures { λ _. ⌜ Finished n word (record { marks = now (marks .entry); forms = now (forms .entry); correction = now (correction .entry) }) (record { marks = now (marks .exit); forms = now (forms .exit); correction = now (correction .exit) }) ⌝ }
 {
     if machine::is_finished(word) {
@@ -35,7 +35,7 @@ fn finish(n: usize, word: Word, marks: &mut [u8], forms: &mut [u64], correction:
     lists::clear_bytes(correction, 0, n);
     if is_none(word) {
         lists::clear_bytes(marks, 0, n);
-        lists::clear_words(forms, 0, n);
+        lists::clear_words(forms, 0, 4 * n);
     }
 }
 
@@ -46,13 +46,12 @@ pub fn fits(
     lit: &[u8],
     own: Rows,
     others: Rows,
-    budget: u8,
     work: &[u64],
     marks: &[u8],
     forms: &[u64],
     correction: &[u8],
 ) -> bool
-    ensures { λ r. ⌜ r ≡ fits? n (length (now (lost .entry))) (length (now (lit .entry))) (own .first .0) (own .count) (others .first .0) (others .count) budget (length (now (work .entry))) (length (now (marks .entry))) (length (now (forms .entry))) (length (now (correction .entry))) ⌝ }
+    ensures { λ r. ⌜ r ≡ fits? n (length (now (lost .entry))) (length (now (lit .entry))) (own .first .0) (own .count) (others .first .0) (others .count) (length (now (work .entry))) (length (now (marks .entry))) (length (now (forms .entry))) (length (now (correction .entry))) ⌝ }
 {
     let size = n as usize;
     let first = own.first;
@@ -62,10 +61,9 @@ pub fn fits(
         & (own.count <= 512)
         & (others.count <= 512)
         & (first.0 <= 512)
-        & (other.0 <= 512)
-        & (budget <= 63);
+        & (other.0 <= 512);
     let shot = small & (10240 <= work.len()) & (size <= lost.len()) & (last <= lit.len());
-    shot & (size <= marks.len()) & (size <= forms.len()) & (size <= correction.len())
+    shot & (size <= marks.len()) & (4 * size <= forms.len()) & (size <= correction.len())
 }
 
 // For turns that are not made, of which there are none here.
@@ -95,8 +93,8 @@ pub fn decode(
     forms: &mut [u64],
     correction: &mut [u8],
 ) -> HalfReport
-    requires { ⌜ (n ≤ 1024) × (own .count ≤ 512) × (others .count ≤ 512) × (own .first .0 ≤ 512) × (others .first .0 ≤ 512) × (10240 ≤ length (now work)) × (budget ≤ 63) ⌝ }
-    requires { ⌜ (n ≤ length (now lost)) × (own .first .0 + own .count ≤ length (now lit)) × (n ≤ length (now marks)) × (n ≤ length (now forms)) × (n ≤ length (now correction)) ⌝ }
+    requires { ⌜ (n ≤ 1024) × (own .count ≤ 512) × (others .count ≤ 512) × (own .first .0 ≤ 512) × (others .first .0 ≤ 512) × (10240 ≤ length (now work)) ⌝ }
+    requires { ⌜ (n ≤ length (now lost)) × (own .first .0 + own .count ≤ length (now lit)) × (n ≤ length (now marks)) × (4 * n ≤ length (now forms)) × (n ≤ length (now correction)) ⌝ }
     ensures { λ r. ⌜ (length (now (work .exit)) ≡ length (now (work .entry))) × HalfDone n (record { flat = now (flat .entry); ends = now (ends .entry); lit = now (lit .entry); first = own .first .0; count = own .count }) (now (lost .entry)) (others .first .0) (others .count) budget limit (now (work .exit)) (record { marks = now (marks .entry); forms = now (forms .entry); correction = now (correction .entry) }) (record { marks = now (marks .exit); forms = now (forms .exit); correction = now (correction .exit) }) r ⌝ }
 {
     starting::start(n, flat, ends, lost, lit, own, others, work, marks);

@@ -37,7 +37,6 @@ pub fn decode_half(
         lit,
         own,
         others,
-        budget,
         work,
         marks,
         forms,

@@ -25,7 +25,7 @@ returns : tie.Need-returns
 returns c = decodes-refused _ _ _ _ (c .before .fits2 .ensures) (not-true _ (c .if1 .taken))
 
 decode-requires : tie.Need-decode-requires
-decode-requires c κs = fits-out _ _ _ _ _ _ _ _ _ _ _ _ (sym (c .before .before .before .before .before .fits2 .ensures) ∙ not-false _ (c .before .before .before .before .if1 .left))
+decode-requires c κs = fits-out _ _ _ _ _ _ _ _ _ _ _ (sym (c .before .before .before .before .before .fits2 .ensures) ∙ not-false _ (c .before .before .before .before .if1 .left))
 
 same-length-5 : tie.Need-same-length-5
 same-length-5 c = search needs

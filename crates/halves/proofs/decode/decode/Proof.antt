@@ -34,7 +34,7 @@ returns : tie.Need-returns
 returns c =
     let p = c .before .before .before .before .before .before .before .before .before .before .before .before .before .before .before .before .before .before .before .before .before .before .before .before .before .before .before .before .pre in
     let s = c .before .before .before .before .before .before .before .before .before .before .before .before .before .before .before .before .before .start .ensures in
-    turns-made _ _ _ _ _ _ _ (c .before .before .before .before .before .before .before .before .before .run-turns .ensures) (turns-fit _ _ _ _ _ _ _ _ (omega (arith, p)) (omega (arith, p)) (omega (arith, p)) (omega (arith, p)) (omega (arith, p, s .work-long)) (omega (arith, p)) (omega (arith, p, s .marks-long)) (omega (arith, p))) (c .before .enum-told .given .1)
+    turns-made _ _ _ _ _ _ _ (c .before .before .before .before .before .before .before .before .before .run-turns .ensures) (turns-fit _ _ _ _ _ _ _ (omega (arith, p)) (omega (arith, p)) (omega (arith, p)) (omega (arith, p, s .work-long)) (omega (arith, p)) (omega (arith, p, s .marks-long)) (omega (arith, p))) (c .before .enum-told .given .1)
 
 finish-requires : tie.Need-finish-requires
 finish-requires c κs =
@@ -60,7 +60,7 @@ returns-2 c =
     let p = c .before .before .before .before .before .before .before .before .before .before .before .before .before .before .before .before .before .before .before .before .before .before .before .before .before .before .before .before .before .before .before .before .before .before .before .before .before .before .pre in
     let s = c .before .before .before .before .before .before .before .before .before .before .before .before .before .before .before .before .before .before .before .before .before .before .before .before .before .before .before .start .ensures in
     let v = c .before .before .before .before .before .before .before .before .before .before .before .before .before .before .before .before .before .before .before .run-turns .ensures in
-    (v .stays .work-long ∙ s .work-long, half-done _ _ _ _ _ _ _ _ _ _ _ _ _ _ _ _ _ s (start-fits _ _ _ _ _ _ _ _ _ (omega (arith, p)) (omega (arith, p)) (omega (arith, p)) (omega (arith, p)) (omega (arith, p)) (omega (arith, p)) (omega (arith, p)) (omega (arith, p)) (omega (arith, p))) v (turns-fit _ _ _ _ _ _ _ _ (omega (arith, p)) (omega (arith, p)) (omega (arith, p)) (omega (arith, p)) (omega (arith, p, s .work-long)) (omega (arith, p)) (omega (arith, p, s .marks-long)) (omega (arith, p))) (c .before .before .before .before .before .before .before .before .before .before .before .ran .given .1) (c .before .before .before .before .before .before .finish .ensures))
+    (v .stays .work-long ∙ s .work-long, half-done _ _ _ _ _ _ _ _ _ _ _ _ _ _ _ _ _ s (start-fits _ _ _ _ _ _ _ _ _ (omega (arith, p)) (omega (arith, p)) (omega (arith, p)) (omega (arith, p)) (omega (arith, p)) (omega (arith, p)) (omega (arith, p)) (omega (arith, p)) (omega (arith, p))) v (turns-fit _ _ _ _ _ _ _ (omega (arith, p)) (omega (arith, p)) (omega (arith, p)) (omega (arith, p, s .work-long)) (omega (arith, p)) (omega (arith, p, s .marks-long)) (omega (arith, p))) (c .before .before .before .before .before .before .before .before .before .before .before .ran .given .1) (c .before .before .before .before .before .before .finish .ensures) (λ i. omega (arith, c .before .before .slice-known11 .given i)))
 
 pub decode-spec : {M : Type 1} → statement M
 decode-spec =

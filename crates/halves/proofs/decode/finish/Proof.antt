@@ -29,6 +29,9 @@ is-none-requires c κs = search needs
 clear-bytes-requires-2 : tie.Need-clear-bytes-requires-2
 clear-bytes-requires-2 c κs = search needs
 
+mul-clear-words : tie.Need-mul-clear-words
+mul-clear-words c = search needs
+
 clear-words-requires : tie.Need-clear-words-requires
 clear-words-requires c κs = search needs
 
@@ -65,6 +68,7 @@ finish-spec =
     clear-bytes-requires
     is-none-requires
     clear-bytes-requires-2
+    mul-clear-words
     clear-words-requires
     same-length-3
     same-length-4

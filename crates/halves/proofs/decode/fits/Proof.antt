@@ -14,9 +14,12 @@ cast-last-2 c = search needs
 add-last : tie.Need-add-last
 add-last c = search needs
 
+mul-result : tie.Need-mul-result
+mul-result c = search needs
+
 returns : tie.Need-returns
 unfolding fits?
 returns c = refl
 
 pub fits-spec : {M : Type 1} → statement M
-fits-spec = tie.close (tie.spec cast-last cast-last-2 add-last returns)
+fits-spec = tie.close (tie.spec cast-last cast-last-2 add-last mul-result returns)

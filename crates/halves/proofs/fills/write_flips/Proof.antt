@@ -1,5 +1,5 @@
 -- `halves::fills::write_flips` meets its contract. Assumes nothing.
-use Prim.Native.Nat.{_-_, _%_, _≤_}
+use Prim.Native.Nat.{_-_, _*_, _%_, _≤_}
 use lib.ListN.{getD}
 use borrow.Author.Needs.{needs}
 use Rattle.starting.specs.Fills.{Filled}
@@ -8,7 +8,7 @@ use Rattle.halves.proofs.fills.write_flips.Statement.{statement}
 use Rattle.halves.proofs.fills.write_flips.Tie as tie
 
 abbrev Inv-loop : tie.InvT-loop
-Inv-loop n forms correction₀ q₀ correction q = (q ≤ n) × Filled (λ k. getD forms k 0 % 2) q correction₀ correction
+Inv-loop n forms correction₀ q₀ correction q = (q ≤ n) × Filled (λ k. getD forms (4 * k) 0 % 2) q correction₀ correction
 
 abbrev μ-loop : tie.MeasureT-loop
 μ-loop n forms correction₀ q₀ correction q = n - q
@@ -18,6 +18,9 @@ loop-holds c = (search needs, fill-none _ _)
 
 mul-constant-of : tie.Need-mul-constant-of Inv-loop μ-loop
 mul-constant-of c = search needs
+
+mul-constant-of-2 : tie.Need-mul-constant-of-2 Inv-loop μ-loop
+mul-constant-of-2 c = search needs
 
 shared-slice-read-constant-of : tie.Need-shared-slice-read-constant-of Inv-loop μ-loop
 shared-slice-read-constant-of c = search needs
@@ -51,6 +54,7 @@ write-flips-spec =
     μ-loop
     loop-holds
     mul-constant-of
+    mul-constant-of-2
     shared-slice-read-constant-of
     constant-of-requires
     slice-write-correction
