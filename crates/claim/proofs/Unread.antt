@@ -9,7 +9,7 @@ use lib.ListN.{length}
 use Rattle.binary.specs.Meaning.{Row, All}
 use Rattle.records.specs.declared.Sizes.{Sizes}
 use Rattle.records.specs.declared.Refusal.{Refusal}
-use Rattle.records.specs.declared.Refusal.the-variants.{Unknown, Length, Size, Place, Clash, Codeless, Range, Twice, Budget, Spoiled, Short}
+use Rattle.records.specs.declared.Refusal.the-variants.{Unknown, Length, Size, Place, Clash, Codeless, Range, Twice, Spoiled, Short}
 use Rattle.records.specs.Records.{Pauli, X, Z, lost, lit, unread, Record, unknown, wrong, size, row, add, report, recordOf}
 use Rattle.records.specs.History.{History, empty, loading, ready, emptyShot, spoil, endShot, joined, loaded}
 use Rattle.records.specs.Table.{isReport, leaves, takes, afterwards}
@@ -73,7 +73,6 @@ leaves-read Clash w a v = tt
 leaves-read Codeless w a v = v
 leaves-read Range w a v = spoiled-read a v
 leaves-read Twice w a v = spoiled-read a v
-leaves-read Budget w a v = ended-read a
 leaves-read Spoiled w a v = ended-read a
 leaves-read Short w a v = short-read (isReport w) a v
 

@@ -17,11 +17,12 @@ pub enum Test {
     Failed(Reply),
 }
 
-// Whether one of the three lists of a half has fewer than n elements.
-fn short_half(n: usize, marks: &[u8], forms: &[u64], correction: &[u8]) -> bool
+// Whether one of the three lists of a half is too short for n qubits.
+fn short_half(n: u16, marks: &[u8], forms: &[u64], correction: &[u8]) -> bool
     ensures { λ r. ⌜ r ≡ shortHalf (record { marks = now (marks .entry); forms = now (forms .entry); correction = now (correction .entry) }) n ⌝ }
 {
-    (marks.len() < n) | (forms.len() < n) | (correction.len() < n)
+    let size = n as usize;
+    (marks.len() < size) | (forms.len() < 4 * size) | (correction.len() < size)
 }
 
 // Whether a list is short. Sizes that are out of range stand in an altered state only.
@@ -40,23 +41,19 @@ pub fn lacking(
 ) -> bool
     ensures { λ r. ⌜ r ≡ lacking? sizes (lentOf (held (now (flat .entry)) (now (ends .entry)) (now (shot .entry))) (now (work .entry)) (sixOf (now («x_marks» .entry)) (now («x_forms» .entry)) (now («x_correction» .entry)) (now («z_marks» .entry)) (now («z_forms» .entry)) (now («z_correction» .entry)))) ⌝ }
 {
-    let n = sizes.n as usize;
     let lists = short_lists(flat, ends, shot, work);
-    let x = short_half(n, x_marks, x_forms, x_correction);
-    let z = short_half(n, z_marks, z_forms, z_correction);
+    let x = short_half(sizes.n, x_marks, x_forms, x_correction);
+    let z = short_half(sizes.n, z_marks, z_forms, z_correction);
     let small = in_range(sizes.n, sizes.x, sizes.z);
     lists | (x | z) | !small
 }
 
 // The tests in the table's order.
-pub fn tested(budget: u8, st: State, lacking: bool) -> Test
-    ensures { λ r. ⌜ r ≡ testOf budget st lacking ⌝ }
+pub fn tested(st: State, lacking: bool) -> Test
+    ensures { λ r. ⌜ r ≡ testOf st lacking ⌝ }
 {
     if codeless(st) {
         return Test::Failed(refused(st, Refusal::Codeless, true));
-    }
-    if 63 < budget {
-        return Test::Failed(refused(st, Refusal::Budget, true));
     }
     let spoiled = st.spoiled;
     if spoiled {

@@ -14,7 +14,7 @@ use Rattle.machine.specs.Lists.{Shows}
 use Rattle.records.specs.declared.Sizes.{Sizes}
 use Rattle.records.specs.declared.State.{State}
 use Rattle.records.specs.declared.Refusal.{Refusal}
-use Rattle.records.specs.declared.Refusal.the-variants.{Codeless, Budget, Spoiled, Short}
+use Rattle.records.specs.declared.Refusal.the-variants.{Codeless, Spoiled, Short}
 use Rattle.records.specs.declared.Report.{Report}
 use Rattle.records.specs.declared.Answer.the-variants.{Decoded}
 use Rattle.records.specs.declared.Reply.{Reply}
@@ -54,29 +54,26 @@ neither true b e = never refl e
 neither false b e = (refl, e)
 
 -- A decode that passes the tests.
-pub record Passes (budget : ℕ) (st : State) (lacking : Bool) : Type 0 where
+pub record Passes (st : State) (lacking : Bool) : Type 0 where
   pub coded : withoutCode (st .phase) ≡ false
-  pub few : ltb 63 budget ≡ false
   pub clean : st .spoiled ≡ false
   pub whole : lacking ≡ false
 
-passes : (budget : ℕ) (st : State) (lacking : Bool) → testOf budget st lacking ≡ Passed → Passes budget st lacking
+passes : (st : State) (lacking : Bool) → testOf st lacking ≡ Passed → Passes st lacking
 unfolding testOf
-passes budget st lacking e =
-    let z = chain (withoutCode (st .phase)) (ltb 63 budget) (st .spoiled) lacking _ _ _ _ e in record { coded = z .0; few = z .1; clean = z .2; whole = z .3 }
+passes st lacking e =
+    let z = chain (withoutCode (st .phase)) (st .spoiled) lacking _ _ _ e in record { coded = z .0; clean = z .1; whole = z .2 }
   where
-    chain : (a b c d : Bool) (p q r s : Reply) → cond a (Failed p) (cond b (Failed q) (cond c (Failed r) (cond d (Failed s) Passed))) ≡ Passed
-        → (a ≡ false) × (b ≡ false) × (c ≡ false) × (d ≡ false)
-    chain true b c d p q r s e = let z : _≡_ {A = ℕ} 0 1 = cc in absurd (omega arith)
-    chain false true c d p q r s e = let z : _≡_ {A = ℕ} 0 1 = cc in absurd (omega arith)
-    chain false false true d p q r s e = let z : _≡_ {A = ℕ} 0 1 = cc in absurd (omega arith)
-    chain false false false true p q r s e = let z : _≡_ {A = ℕ} 0 1 = cc in absurd (omega arith)
-    chain false false false false p q r s e = (refl, refl, refl, refl)
+    chain : (a b c : Bool) (p q r : Reply) → cond a (Failed p) (cond b (Failed q) (cond c (Failed r) Passed)) ≡ Passed → (a ≡ false) × (b ≡ false) × (c ≡ false)
+    chain true b c p q r e = let z : _≡_ {A = ℕ} 0 1 = cc in absurd (omega arith)
+    chain false true c p q r e = let z : _≡_ {A = ℕ} 0 1 = cc in absurd (omega arith)
+    chain false false true p q r e = let z : _≡_ {A = ℕ} 0 1 = cc in absurd (omega arith)
+    chain false false false p q r e = (refl, refl, refl)
 
 -- As the code tells it.
-pub passed : (budget : ℕ) (st : State) (l : Lent) (lacking : Bool) (test : Test) → lacking ≡ lacking? (st .sizes) l → test ≡ testOf budget st lacking
-    → test ≡ Passed → Passes budget st (lacking? (st .sizes) l)
-passed budget st l lacking test e f g = subst (Passes budget st) e (passes budget st lacking (sym f ∙ g))
+pub passed : (st : State) (l : Lent) (lacking : Bool) (test : Test) → lacking ≡ lacking? (st .sizes) l → test ≡ testOf st lacking
+    → test ≡ Passed → Passes st (lacking? (st .sizes) l)
+passed st l lacking test e f g = subst (Passes st) e (passes st lacking (sym f ∙ g))
 
 -- Lists that lack nothing.
 pub record Whole (sizes : Sizes) (l : Lent) : Type 0 where
@@ -126,27 +123,26 @@ module _ (budget limit : ℕ) (st : State) (l : Lent) (reply : Reply) where
       → ((c : Code) (s : Shot) → Holds c s st (l .lists) → refusalAt w (ready c s) l ≡ some n) → Promised w st l l reply
   refuse-code t n e g = refuse n e (with-code st (l .lists) (λ a. refusalAt w a l ≡ some n) t g)
 
-  by-test : testOf budget st (lacking? (st .sizes) l) ≡ Failed reply → Promised w st l l reply
+  by-test : testOf st (lacking? (st .sizes) l) ≡ Failed reply → Promised w st l l reply
   unfolding testOf refusal lacking?
   by-test e =
       bit (withoutCode (st .phase)) (λ t. refuse Codeless (rw t at e) (λ a h. rw (no-code st (l .lists) a h t)))
-      (λ t. bit (ltb 63 budget) (λ h. refuse-code t Budget (rw (t, h) at e) (λ c s v. rw h))
-      (λ h. bit (st .spoiled) (λ i. refuse-code t Spoiled (rw (t, h, i) at e) (λ c s v. rw (h, ← (v .spoiled), i)))
-      (λ i. bit (lacking? (st .sizes) l) (λ k. refuse-code t Short (rw (t, h, i, k) at e) (λ c s v.
+      (λ t. bit (st .spoiled) (λ i. refuse-code t Spoiled (rw (t, i) at e) (λ c s v. rw (← (v .spoiled), i)))
+      (λ i. bit (lacking? (st .sizes) l) (λ k. refuse-code t Short (rw (t, i, k) at e) (λ c s v.
       let u : (shortLists (l .lists) (length (l .work)) || shortSix (l .six) (c .n)) ≡ true
       = rw (v .sizes) at (short-of (shortLists (l .lists) (length (l .work))) (shortSix (l .six) (st .sizes .n)) (inRange (st .sizes .n) (st .sizes .x) (st .sizes .z)) k (rw (v .sizes) (v .range))) in
-      rw (h, ← (v .spoiled), i, u)))
-      (λ k. let f : Passed ≡ Failed reply = rw (t, h, i, k) at e in let z : _≡_ {A = ℕ} 0 1 = cc in absurd (omega arith)))))
+      rw (← (v .spoiled), i, u)))
+      (λ k. let f : Passed ≡ Failed reply = rw (t, i, k) at e in let z : _≡_ {A = ℕ} 0 1 = cc in absurd (omega arith))))
 
-  pub decode-refused : (lacking : Bool) (test : Test) → lacking ≡ lacking? (st .sizes) l → test ≡ testOf budget st lacking → test ≡ Failed reply
+  pub decode-refused : (lacking : Bool) (test : Test) → lacking ≡ lacking? (st .sizes) l → test ≡ testOf st lacking → test ≡ Failed reply
       → Promised w st l l reply
-  decode-refused lacking test e f g = by-test (ap (testOf budget st) (sym e) ∙ sym f ∙ g)
+  decode-refused lacking test e f g = by-test (ap (testOf st) (sym e) ∙ sym f ∙ g)
 
 ----------------------------------------------------------------------
 -- Carried out
 
 module _ (budget limit : ℕ) (st : State) (flat ends shot shot′ work : List ℕ) (six : Six)
-    (p : Passes budget st (lacking? (st .sizes) (lentOf (held flat ends shot) work six))) (b : Begun st shot shot′) where
+    (p : Passes st (lacking? (st .sizes) (lentOf (held flat ends shot) work six))) (b : Begun st shot shot′) where
   abbrev old : Lent
   old = lentOf (held flat ends shot) work six
 
@@ -154,7 +150,7 @@ module _ (budget limit : ℕ) (st : State) (flat ends shot shot′ work : List �
   halves-fit =
       let o = whole (st .sizes) old (p .whole) in (
         omega (arith, o .lists .shot, b .long),
-        both-fit (st .sizes) budget limit (held flat ends shot′) (length work) six (o .range) (ltb-false 63 budget (p .few))
+        both-fit (st .sizes) budget limit (held flat ends shot′) (length work) six (o .range)
             (record { flat = o .lists .flat; ends = o .lists .ends; shot = omega (arith, o .lists .shot, b .long); work = o .lists .work }) (o .x) (o .z),
       )
 
@@ -163,7 +159,7 @@ module _ (budget limit : ℕ) (st : State) (flat ends shot shot′ work : List �
   no-refusal c s v =
       let t = nothing-short (shortLists (old .lists) (length work)) (shortSix six (st .sizes .n)) (inRange (st .sizes .n) (st .sizes .x) (st .sizes .z)) (p .whole) in
       let x : shortSix six (c .n) ≡ false = rw (v .sizes) at (t .1) in
-      rw (p .few, ← (v .spoiled), p .clean, t .0, x)
+      rw (← (v .spoiled), p .clean, t .0, x)
 
   module _ (work′ : List ℕ) (six′ : Six) (rep : Report) (d : Reports (st .sizes) budget limit (held flat ends shot′) work work′ six six′ rep) where
     abbrev new : Lent

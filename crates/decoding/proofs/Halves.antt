@@ -69,12 +69,12 @@ module _ (z : Sizes) (budget limit : ℕ) (l : Lists) (readings : List ℕ) (tol
 ----------------------------------------------------------------------
 -- Sizes and lists fit
 
-fits-so : (g : Given) (work : ℕ) (l : HalfLists) → g .n ≤ 1024 → g .count ≤ 512 → g .others ≤ 512 → g .first ≤ 512 → g .other ≤ 512 → g .budget ≤ 63
+fits-so : (g : Given) (work : ℕ) (l : HalfLists) → g .n ≤ 1024 → g .count ≤ 512 → g .others ≤ 512 → g .first ≤ 512 → g .other ≤ 512
     → 10240 ≤ work → g .n ≤ length (g .lost) → g .first + g .count ≤ length (g .lit) → LongHalf (g .n) l → fitting g work l ≡ true
 unfolding fitting
-fits-so g work l n count others first other budget long on lights three =
-    and-in (and-in (and-in (and-in (and-in (and-in (and-in (and-in (and-in (and-in (and-in
-    (le-leb _ _ n) (le-leb _ _ count)) (le-leb _ _ others)) (le-leb _ _ first)) (le-leb _ _ other)) (le-leb _ _ budget))
+fits-so g work l n count others first other long on lights three =
+    and-in (and-in (and-in (and-in (and-in (and-in (and-in (and-in (and-in (and-in
+    (le-leb _ _ n) (le-leb _ _ count)) (le-leb _ _ others)) (le-leb _ _ first)) (le-leb _ _ other))
     (le-leb _ _ long)) (le-leb _ _ on)) (le-leb _ _ lights))
     (le-leb _ _ (three .marks))) (le-leb _ _ (three .forms))) (le-leb _ _ (three .correction))
 
@@ -86,14 +86,14 @@ readings-long : (shot : List ℕ) → 2048 ≤ length shot → 1024 ≤ length (
 unfolding readingsOf
 readings-long shot h = omega (arith, length-drop 1024 shot)
 
-pub both-fit : (z : Sizes) (budget limit : ℕ) (l : Lists) (work : ℕ) (six : Six) → InRange (z .n) (z .x) (z .z) → budget ≤ 63 → LongLists l work
+pub both-fit : (z : Sizes) (budget limit : ℕ) (l : Lists) (work : ℕ) (six : Six) → InRange (z .n) (z .x) (z .z) → LongLists l work
     → LongHalf (z .n) (six .x) → LongHalf (z .n) (six .z) → BothFit z budget limit l work six
-both-fit z budget limit l work six m few o x-long z-long =
+both-fit z budget limit l work six m o x-long z-long =
     let rows = readings-long (l .shot) (o .shot) in
     let on : z .n ≤ length (l .shot) = omega (arith, m .qubits, o .shot) in
     record {
-      x = fits-so (givenOf X z l budget limit) work (six .x) (m .qubits) (m .zs) (m .xs) (m .xs) (omega arith) few (o .work) on (omega (arith, m .xs, m .zs)) x-long;
-      z = fits-so (givenOf Z z l budget limit) work (six .z) (m .qubits) (m .xs) (m .zs) (omega arith) (m .xs) few (o .work) on (omega (arith, m .xs)) z-long;
+      x = fits-so (givenOf X z l budget limit) work (six .x) (m .qubits) (m .zs) (m .xs) (m .xs) (omega arith) (o .work) on (omega (arith, m .xs, m .zs)) x-long;
+      z = fits-so (givenOf Z z l budget limit) work (six .z) (m .qubits) (m .xs) (m .zs) (omega arith) (m .xs) (o .work) on (omega (arith, m .xs)) z-long;
     }
 
 ----------------------------------------------------------------------

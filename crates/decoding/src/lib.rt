@@ -155,7 +155,7 @@ pub fn decode(
         z_forms,
         z_correction,
     );
-    let test = tested(budget, st, short);
+    let test = tested(st, short);
     if let Test::Failed(reply) = test {
         return reply;
     }

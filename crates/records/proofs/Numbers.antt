@@ -54,7 +54,7 @@ ascending short six wrong a = (omega arith, tt)
 ascending short six (size n x z) a = (omega arith, (omega arith, tt))
 ascending short six (row p r) a = (omega arith, (omega arith, (omega arith, (omega arith, tt))))
 ascending short six (add u k) a = (omega arith, (omega arith, (omega arith, (omega arith, tt))))
-ascending short six (report budget limit) a = (omega arith, (omega arith, (omega arith, (omega arith, tt))))
+ascending short six (report budget limit) a = (omega arith, (omega arith, (omega arith, tt)))
 
 pub lowest-numbered : NumberedLaw
 unfolding NumberedLaw refusal

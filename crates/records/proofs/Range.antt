@@ -3,7 +3,7 @@
 --   LongLists  the lists of code, shot and work have their least lengths; LongHalf: the three lists of a half
 use mathlib.Core.Path.{_≡_, refl}
 use mathlib.Core.Bool.{Bool, true, false, _&&_, _||_}
-use Prim.Native.Nat.{ℕ, _≤_}
+use Prim.Native.Nat.{ℕ, _*_, _≤_}
 use borrow.Author.Tests.{leb-true, ltb-false}
 use lib.Dec.{leb, ltb}
 use lib.ListN.{length}
@@ -59,11 +59,11 @@ long-lists l work e =
 
 pub record LongHalf (n : ℕ) (l : HalfLists) : Type 0 where
   pub marks : n ≤ length (l .marks)
-  pub forms : n ≤ length (l .forms)
+  pub forms : 4 * n ≤ length (l .forms)
   pub correction : n ≤ length (l .correction)
 
 pub long-half : (n : ℕ) (l : HalfLists) → shortHalf l n ≡ false → LongHalf n l
 long-half n l e =
-    let a = neither (ltb (length (l .marks)) n || ltb (length (l .forms)) n) (ltb (length (l .correction)) n) e in
-    let b = neither (ltb (length (l .marks)) n) (ltb (length (l .forms)) n) (a .0) in
+    let a = neither (ltb (length (l .marks)) n || ltb (length (l .forms)) (4 * n)) (ltb (length (l .correction)) n) e in
+    let b = neither (ltb (length (l .marks)) n) (ltb (length (l .forms)) (4 * n)) (a .0) in
     record { marks = ltb-false _ _ (b .0); forms = ltb-false _ _ (b .1); correction = ltb-false _ _ (a .1) }

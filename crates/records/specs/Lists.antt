@@ -9,7 +9,7 @@ use mathlib.Core.Path.{_≡_}
 use mathlib.Core.Bool.{Bool, true, false, not, _&&_, _||_}
 use mathlib.Core.Logic.{_⊎_}
 use mathlib.Core.List.{List, [], _++_}
-use Prim.Native.Nat.{ℕ, _+_, _≤_, _<_}
+use Prim.Native.Nat.{ℕ, _+_, _*_, _≤_, _<_}
 use lib.Dec.{eqb, ltb}
 use lib.ListN.{length, getD}
 use Rattle.binary.specs.Meaning.{Row, All, commute?}
@@ -62,9 +62,9 @@ unfoldable pub shortLists : Lists → ℕ → Bool
 shortLists l work = ltb (length (l .flat)) 16384 || ltb (length (l .ends)) 1024 || ltb (length (l .shot)) 2048 || ltb work 10240
 
 abbrev pub shortHalf : HalfLists → ℕ → Bool
-shortHalf l n = ltb (length (l .marks)) n || ltb (length (l .forms)) n || ltb (length (l .correction)) n
+shortHalf l n = ltb (length (l .marks)) n || ltb (length (l .forms)) (4 * n) || ltb (length (l .correction)) n
 
--- The six lists of a decode have at least n elements.
+-- The six lists of a decode have at least n elements, its forms four words a qubit.
 unfoldable pub shortSix : Six → ℕ → Bool
 shortSix s n = shortHalf (s .x) n || shortHalf (s .z) n
 

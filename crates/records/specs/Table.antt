@@ -14,10 +14,11 @@ use lib.ListN.{length}
 use Rattle.binary.specs.Meaning.{Row, commute?}
 use Rattle.code.specs.Tests.{ascending?}
 use Rattle.records.specs.declared.Refusal.{Refusal}
-use Rattle.records.specs.declared.Refusal.the-variants.{Unknown, Length, Size, Place, Clash, Codeless, Range, Twice, Budget, Spoiled, Short}
+use Rattle.records.specs.declared.Refusal.the-variants.{Unknown, Length, Size, Place, Clash, Codeless, Range, Twice, Spoiled, Short}
 use Rattle.records.specs.Records.{Pauli, X, Z, Record, unknown, wrong, size, row, add, report}
 use Rattle.records.specs.History.{Code, Shot, History, empty, loading, ready, sizesOf, domainOf, sizeOf, already, onShot, joined, spoil, endShot, loaded, addRow}
 
+-- 10 is not used: any budget is accepted (document 02, request e).
 abbrev pub refusalNumber : Refusal → ℕ
 refusalNumber Unknown = 1
 refusalNumber Length = 2
@@ -28,7 +29,6 @@ refusalNumber Clash = 6
 refusalNumber Codeless = 7
 refusalNumber Range = 8
 refusalNumber Twice = 9
-refusalNumber Budget = 10
 refusalNumber Spoiled = 11
 refusalNumber Short = 12
 
@@ -69,7 +69,7 @@ ofShot f (loading s xs zs) = false
 ofShot f (ready c s) = f c s
 
 -- The refusals that a record may meet, each with its test, by number. short: a list of code, shot or work is below its least length.
--- six n: one of the six lists of a decode is below n; they count at kind 5 only. 6 and 9 read the lists, so neither is tried where one is short.
+-- six n: one of the six lists of a decode is too short for n qubits; they count at kind 5 only. 6 and 9 read the lists, so neither is tried where one is short.
 abbrev pub tests : Bool → (ℕ → Bool) → Record → History → List (Refusal × Bool)
 tests short six unknown a = (Unknown, true) ∷ []
 tests short six wrong a = (Length, true) ∷ []
@@ -81,7 +81,7 @@ tests short six (add u k) a =
     ∷ (Twice, not short && ofShot (λ c s. already (domainOf u) s k) a)
     ∷ (Short, short) ∷ []
 tests short six (report budget limit) a =
-    (Codeless, not (complete a)) ∷ (Budget, ltb 63 budget) ∷ (Spoiled, ofShot (λ c s. s .spoiled) a) ∷ (Short, short || ofShot (λ c s. six (c .n)) a) ∷ []
+    (Codeless, not (complete a)) ∷ (Spoiled, ofShot (λ c s. s .spoiled) a) ∷ (Short, short || ofShot (λ c s. six (c .n)) a) ∷ []
 
 -- The first whose test passes.
 abbrev pub lowest : List (Refusal × Bool) → Option Refusal
@@ -128,7 +128,6 @@ leaves Clash r a = empty
 leaves Codeless r a = a
 leaves Range r a = spoil a
 leaves Twice r a = spoil a
-leaves Budget r a = endShot a
 leaves Spoiled r a = endShot a
 leaves Short r a = cond (isReport r) (endShot a) a
 

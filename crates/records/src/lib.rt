@@ -15,7 +15,6 @@ pub enum Refusal {
     Codeless,
     Range,
     Twice,
-    Budget,
     Spoiled,
     Short,
 }

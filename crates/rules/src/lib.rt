@@ -22,7 +22,6 @@ pub fn refusal_number(r: Refusal) -> u8
         Refusal::Codeless => 7,
         Refusal::Range => 8,
         Refusal::Twice => 9,
-        Refusal::Budget => 10,
         Refusal::Spoiled => 11,
         Refusal::Short => 12,
     }

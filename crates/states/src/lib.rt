@@ -90,7 +90,6 @@ fn left(st: State, why: Refusal, decode: bool) -> State
         Refusal::Codeless => st,
         Refusal::Range => spoiled(st),
         Refusal::Twice => spoiled(st),
-        Refusal::Budget => ended(st),
         Refusal::Spoiled => ended(st),
         Refusal::Short => after_short(st, decode),
     }

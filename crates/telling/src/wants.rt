@@ -165,15 +165,6 @@ fn add_twice(line: &mut [u8], at: usize, bytes: &[u8]) -> usize
     add(line, end, b" is in this shot already")
 }
 
-// Refusal 10: the budget, and the most that it may be.
-fn add_budget(line: &mut [u8], at: usize, bytes: &[u8]) -> usize
-    requires { ⌜ at ≤ length (now line) ⌝ }
-    ensures { λ r. ⌜ r ≤ length (now (line .exit)) ⌝ }
-{
-    let end = add_part(line, at, b" budget:", byte_at(bytes, 1) as u64);
-    add(line, end, b" guesses, at most 63 wanted")
-}
-
 // The word of a refusal, and what it wants.
 pub fn add_wanted(line: &mut [u8], at: usize, st: State, refusal: Refusal, bytes: &[u8]) -> usize
     requires { ⌜ at ≤ length (now line) ⌝ }
@@ -197,7 +188,6 @@ pub fn add_wanted(line: &mut [u8], at: usize, st: State, refusal: Refusal, bytes
         Refusal::Codeless => add_codeless(line, at, st),
         Refusal::Range => add_range(line, at, st, bytes),
         Refusal::Twice => add_twice(line, at, bytes),
-        Refusal::Budget => add_budget(line, at, bytes),
         Refusal::Spoiled => add(line, at, b" spoiled: a record of this shot was refused"),
         Refusal::Short => add(line, at, b" short: a lent list is below its least length"),
     }

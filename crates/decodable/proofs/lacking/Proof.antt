@@ -5,9 +5,6 @@ use borrow.Author.Needs.{needs}
 use Rattle.decodable.proofs.lacking.Statement.{statement}
 use Rattle.decodable.proofs.lacking.Tie as tie
 
-cast-n : tie.Need-cast-n
-cast-n c = search needs
-
 short-lists-requires : tie.Need-short-lists-requires
 short-lists-requires c κs = search needs
 
@@ -28,7 +25,6 @@ pub lacking-spec : {M : Type 1} → statement M
 lacking-spec =
     tie.close
     (tie.spec
-    cast-n
     short-lists-requires
     short-half-requires
     short-half-requires-2

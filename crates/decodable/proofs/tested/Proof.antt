@@ -1,6 +1,5 @@
 -- `decodable::tested` meets its contract. Assumes nothing.
 use mathlib.Core.Path.{ap}
-use borrow.Author.Tests.{lt-ltb, le-ltb}
 use Rattle.decodable.specs.declared.Test.the-variants.{Failed}
 use Rattle.decodable.specs.Tests.{testOf}
 use borrow.Author.Needs.{needs}
@@ -22,25 +21,18 @@ refused-requires-2 c κs = search needs
 
 returns-2 : tie.Need-returns-2
 unfolding testOf
-returns-2 c = rw (← (c .before .before .before .codeless .ensures), c .before .before .if1 .left, lt-ltb _ _ (c .before .if2 .taken)) (ap Failed (c .refused2 .ensures))
+returns-2 c = rw (← (c .before .before .before .codeless .ensures), c .before .before .if1 .left, c .before .if2 .taken) (ap Failed (c .refused2 .ensures))
 
 refused-requires-3 : tie.Need-refused-requires-3
 refused-requires-3 c κs = search needs
 
 returns-3 : tie.Need-returns-3
 unfolding testOf
-returns-3 c = rw (← (c .before .before .before .before .codeless .ensures), c .before .before .before .if1 .left, le-ltb _ _ (c .before .before .if2 .left), c .before .if3 .taken) (ap Failed (c .refused3 .ensures))
-
-refused-requires-4 : tie.Need-refused-requires-4
-refused-requires-4 c κs = search needs
+returns-3 c = rw (← (c .before .before .before .before .codeless .ensures), c .before .before .before .if1 .left, c .before .before .if2 .left, c .before .if3 .taken) (ap Failed (c .refused3 .ensures))
 
 returns-4 : tie.Need-returns-4
 unfolding testOf
-returns-4 c = rw (← (c .before .before .before .before .before .codeless .ensures), c .before .before .before .before .if1 .left, le-ltb _ _ (c .before .before .before .if2 .left), c .before .before .if3 .left, c .before .if4 .taken) (ap Failed (c .refused4 .ensures))
-
-returns-5 : tie.Need-returns-5
-unfolding testOf
-returns-5 c = rw (← (c .before .before .before .before .codeless .ensures), c .before .before .before .if1 .left, le-ltb _ _ (c .before .before .if2 .left), c .before .if3 .left, c .if4 .left)
+returns-4 c = rw (← (c .before .before .before .codeless .ensures), c .before .before .if1 .left, c .before .if2 .left, c .if3 .left)
 
 pub tested-spec : {M : Type 1} → statement M
 tested-spec =
@@ -53,6 +45,4 @@ tested-spec =
     returns-2
     refused-requires-3
     returns-3
-    refused-requires-4
-    returns-4
-    returns-5)
+    returns-4)

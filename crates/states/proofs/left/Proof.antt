@@ -63,12 +63,6 @@ ended-requires c κs = search needs
 enum-told-11 : tie.Need-enum-told-11
 enum-told-11 c = search needs
 
-ended-requires-2 : tie.Need-ended-requires-2
-ended-requires-2 c κs = search needs
-
-enum-told-12 : tie.Need-enum-told-12
-enum-told-12 c = search needs
-
 after-short-requires : tie.Need-after-short-requires
 after-short-requires c κs = search needs
 
@@ -103,10 +97,7 @@ returns-10 : tie.Need-returns-10
 returns-10 c = rw (c .before .enum-told10 .given .1) (c .ended .ensures)
 
 returns-11 : tie.Need-returns-11
-returns-11 c = rw (c .before .enum-told11 .given .1) (c .ended2 .ensures)
-
-returns-12 : tie.Need-returns-12
-returns-12 c = rw (c .before .enum-told12 .given .1) (c .after-short .ensures)
+returns-11 c = rw (c .before .enum-told11 .given .1) (c .after-short .ensures)
 
 pub left-spec : {M : Type 1} → statement M
 left-spec =
@@ -132,8 +123,6 @@ left-spec =
     enum-told-10
     ended-requires
     enum-told-11
-    ended-requires-2
-    enum-told-12
     after-short-requires
     returns
     returns-2
@@ -145,5 +134,4 @@ left-spec =
     returns-8
     returns-9
     returns-10
-    returns-11
-    returns-12)
+    returns-11)
