@@ -14,10 +14,12 @@ use Rattle.commuting.proofs.Sharing.{commute-symmetric}
 use Rattle.machine.specs.declared.HalfReport.{HalfReport}
 use Rattle.machine.specs.Machine.{Half}
 use Rattle.machine.specs.Report.{Shown, shown, outcome}
-use Rattle.machine.specs.Lists.{Shows, seen}
+use Rattle.machine.specs.Lists.{HalfLists, Shows, seen}
 use Rattle.machine.specs.Unread.{before, AllReadLaw}
-use Rattle.machine.specs.Demands.{Obeys, VerdictLaw, CountedLaw, FillingsLaw, ClassesLaw, BudgetsLaw}
-use Rattle.machine.proofs.Demands.{verdict, counted, fillings, classes, budgets}
+use Rattle.machine.specs.Demands.{Obeys, VerdictLaw, CountedLaw, FillingsLaw, ClassesLaw, BudgetsLaw, ReachLaw}
+use Rattle.machine.specs.OneWord.{OneWord, OneWordLaw}
+use Rattle.machine.proofs.FormWords.{one-word}
+use Rattle.machine.proofs.Demands.{verdict, counted, fillings, classes, budgets, reach}
 use Rattle.machine.proofs.Unread.{all-read}
 use Rattle.machine.proofs.Seen.{seen-is}
 use Rattle.records.specs.declared.Report.{Report}
@@ -157,6 +159,7 @@ outcomes c s budget limit r old new x none w a i j d e f =
 record ShownAs (k : Step) (c : Code) (s : Shot) (budget limit : ℕ) (r : Report) : Type 0 where
   obeyed : (p : Pauli) → Obeys (half p c s)
   same : (p : Pauli) → shows p c r k ≡ outcome (half p c s) budget limit
+  listed : (p : Pauli) → Shows (c .n) (outcome (half p c s) budget limit) (listsFor p (k .six)) (listsFor p (k .left .six))
 
 shown-as : (k : Step) (p : Place (step k)) (c : Code) (s : Shot) (budget limit : ℕ) (r : Report) → Reported (at p) k c s budget limit r
     → ShownAs k c s budget limit r
@@ -171,17 +174,19 @@ shown-as k p c s budget limit r v =
       obeyed = good;
       same = λ b. ap (λ (u : HalfReport). seen (c .n) u (listsFor b (k .left .six))) (o .reports b)
           ∙ seen-is (half b c s) (good b) budget limit (listsFor b (k .six)) (listsFor b (k .left .six)) (o .lists b);
+      listed = o .lists;
     }
 
 ----------------------------------------------------------------------
 -- The claim
 
 half-right : (h : Half) → Obeys h → (budget limit : ℕ) → HalfRight h budget limit (outcome h budget limit)
-unfolding VerdictLaw CountedLaw FillingsLaw ClassesLaw
+unfolding VerdictLaw CountedLaw FillingsLaw ClassesLaw ReachLaw
 half-right h good budget limit =
     record {
       verdict = verdict h good budget limit;
       counted = counted h good budget limit;
+      reach = reach h budget limit;
       fillings = fillings h good budget limit;
       classes = classes h good budget limit;
     }
@@ -194,6 +199,11 @@ same-half h good budget limit budget′ limit′ i j = budgets h good budget bud
 half-read : (h : Half) → ((i : ℕ) → h .unread i ≡ false) → (budget limit : ℕ) → outcome h budget limit ≡ shown (h .size) (before h budget limit)
 unfolding AllReadLaw
 half-read h read = all-read h read .outcome
+
+half-one-word : (h : Half) (budget limit : ℕ) → budget ≤ 63 → (old new : HalfLists) → Shows (h .size) (outcome h budget limit) old new
+    → OneWord (h .size) (outcome h budget limit) new
+unfolding OneWordLaw
+half-one-word = one-word
 
 pub claim : Claim
 claim =
@@ -210,6 +220,10 @@ claim =
           let z′ = shown-as k′ p′ c s budget′ limit′ r′ v′ in
           subst (λ (x : Shown). SameHalf x (shows b c r′ k′)) (sym (z .same b))
           (subst (SameHalf (outcome (half b c s) budget limit)) (sym (z′ .same b)) (same-half (half b c s) (z .obeyed b) budget limit budget′ limit′ i j));
+      one-word = λ k p c s budget limit r v few b.
+          let z = shown-as k p c s budget limit r v in
+          subst (λ (x : Shown). OneWord (c .n) x (listsFor b (k .left .six))) (sym (z .same b))
+          (half-one-word (half b c s) budget limit few (listsFor b (k .six)) (listsFor b (k .left .six)) (z .listed b));
       before = λ k p c s budget limit r v read b.
           let unmarked : AllRead (ready c s) = subst AllRead (v .at) (past-read (p .lists) empty (p .before) read tt) in
           shown-as k p c s budget limit r v .same b ∙ half-read (half b c s) (λ i. ap (λ (f : ℕ → Bool). f i) (unmarked (other b))) budget limit;

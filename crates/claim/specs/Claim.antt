@@ -14,7 +14,8 @@ use Rattle.machine.specs.Machine.{Half, isOpen}
 use Rattle.machine.specs.Report.{Shown, shown}
 use Rattle.machine.specs.Lists.{HalfLists, seen}
 use Rattle.machine.specs.Unread.{before}
-use Rattle.machine.specs.Demands.{Verdict, Counted, Fillings, Classes}
+use Rattle.machine.specs.OneWord.{OneWord}
+use Rattle.machine.specs.Demands.{Verdict, Counted, Fillings, Classes, Reach}
 use Rattle.records.specs.declared.Report.{Report}
 use Rattle.records.specs.declared.Answer.the-variants.{Decoded}
 use Rattle.records.specs.Records.{Pauli, X, Z, report, recordOf}
@@ -54,10 +55,11 @@ pub record Reported (a : History) (k : Step) (c : Code) (s : Shot) (budget limit
   pub decode : recordOf (k .bytes) ≡ report budget limit
   pub answer : k .reply .answer ≡ Decoded r
 
--- Demands 2 and 3, of what a decode shows of a half, and that its counts are those of the turns made.
+-- Demands 2 and 3, of what a decode shows of a half, that its counts are those of the turns made, and how far its forms reach.
 pub record HalfRight (h : Half) (budget limit : ℕ) (s : Shown) : Type 0 where
   pub verdict : Verdict h budget limit s
   pub counted : Counted h s
+  pub reach : Reach budget s
   pub fillings : (s .report .word ≡ None → ⊥) → Fillings h s
   pub classes : (s .report .word ≡ None → ⊥) → ((q : ℕ) → isOpen (s .mark) q ≡ false) → Classes h s
 
@@ -84,6 +86,9 @@ pub record Claim : Type 0 where
   pub same : (k k′ : Step) (p : Place (step k)) (p′ : Place (step k′)) (c : Code) (s : Shot) (budget limit budget′ limit′ : ℕ) (r r′ : Report)
       → Reported (at p) k c s budget limit r → Reported (at p′) k′ c s budget′ limit′ r′ → budget ≤ budget′ → limit ≤ limit′
       → (b : Pauli) → SameHalf (shows b c r k) (shows b c r′ k′)
+  -- Each half that a decode with a budget up to 63 reports has its forms in their first words; the other three words of each are 0.
+  pub one-word : (k : Step) (p : Place (step k)) (c : Code) (s : Shot) (budget limit : ℕ) (r : Report) → Reported (at p) k c s budget limit r
+      → budget ≤ 63 → (b : Pauli) → OneWord (c .n) (shows b c r k) (listsFor b (k .left .six))
   -- Without records of kinds 6 and 7 before it, each half that a decode reports comes out as document 01 alone has it, every row read.
   pub before : (k : Step) (p : Place (step k)) (c : Code) (s : Shot) (budget limit : ℕ) (r : Report) → Reported (at p) k c s budget limit r
       → All Read (p .before) → (b : Pauli) → shows b c r k ≡ shown (c .n) (before (half b c s) budget limit)

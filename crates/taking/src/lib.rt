@@ -61,10 +61,10 @@ fn all_records(
 {
     let mut work = [0u64; 10240];
     let mut x_marks = [0u8; 1024];
-    let mut x_forms = [0u64; 1024];
+    let mut x_forms = [0u64; 4096];
     let mut x_correction = [0u8; 1024];
     let mut z_marks = [0u8; 1024];
-    let mut z_forms = [0u64; 1024];
+    let mut z_forms = [0u64; 4096];
     let mut z_correction = [0u8; 1024];
     let most = places.len();
     while p.next > 0 {

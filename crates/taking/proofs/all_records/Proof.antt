@@ -17,7 +17,7 @@ use Rattle.taking.proofs.all_records.Tie as tie
 
 abbrev Inv-loop : tie.InvT-loop
 Inv-loop p₀ ended flat₀ ends₀ shot₀ block out₀ places₀ work₀ x-marks₀ x-forms₀ x-correction₀ z-marks₀ z-forms₀ z-correction₀ most p flat ends shot out places work x-marks x-forms x-correction z-marks z-forms z-correction =
-    Took ended (standOf p₀ (held flat₀ ends₀ shot₀) block) (standOf p (held flat ends shot) block) (p .put) (p .noted) out places × Going ended p block out places × ((p₀ .taken < p .taken) ⊎ ((p₀ .taken ≡ p .taken) × (p₀ .next ≡ p .next))) × (p₀ .taken ≤ length block → p .taken ≤ length block) × (length flat ≡ length flat₀) × (length ends ≡ length ends₀) × (length shot ≡ length shot₀) × (length out ≡ length out₀) × (length places ≡ length places₀) × (length work ≡ 10240) × (length x-marks ≡ 1024) × (length x-forms ≡ 1024) × (length x-correction ≡ 1024) × (length z-marks ≡ 1024) × (length z-forms ≡ 1024) × (length z-correction ≡ 1024)
+    Took ended (standOf p₀ (held flat₀ ends₀ shot₀) block) (standOf p (held flat ends shot) block) (p .put) (p .noted) out places × Going ended p block out places × ((p₀ .taken < p .taken) ⊎ ((p₀ .taken ≡ p .taken) × (p₀ .next ≡ p .next))) × (p₀ .taken ≤ length block → p .taken ≤ length block) × (length flat ≡ length flat₀) × (length ends ≡ length ends₀) × (length shot ≡ length shot₀) × (length out ≡ length out₀) × (length places ≡ length places₀) × (length work ≡ 10240) × (length x-marks ≡ 1024) × (length x-forms ≡ 4096) × (length x-correction ≡ 1024) × (length z-marks ≡ 1024) × (length z-forms ≡ 4096) × (length z-correction ≡ 1024)
 
 abbrev μ-loop : tie.MeasureT-loop
 μ-loop p₀ ended flat₀ ends₀ shot₀ block out₀ places₀ work₀ x-marks₀ x-forms₀ x-correction₀ z-marks₀ z-forms₀ z-correction₀ most p flat ends shot out places work x-marks x-forms x-correction z-marks z-forms z-correction = length block - p .taken
