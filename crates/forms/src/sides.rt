@@ -1,7 +1,8 @@
 // A row's side, word by word.
 ghost use mathlib.Core.Path.{_≡_};
 ghost use mathlib.Core.Bool.{cond};
-ghost use Prim.Native.Nat.{_<_};
+ghost use Prim.Native.Nat.{_*_, _≤_, _<_};
+ghost use lib.ListN.{length};
 ghost use Rattle.forms.specs.Sides.{check, Reaches, wordOf, IsSideWord, HighestPart, NewestBit};
 use crate::Part;
 use code::Qubit;
@@ -16,20 +17,16 @@ pub fn top_word(live: u16) -> usize
     3
 }
 
-// Word v of a qubit's form; 0 for a qubit n or above, or past the list.
+// Word v of a qubit's form; 0 for a qubit n or above.
 fn word_of(n: usize, forms: &[u64], v: usize, q: Qubit) -> u64
-    requires { ⌜ v < 4 ⌝ }
+    requires { ⌜ (v < 4) × (4 * n ≤ length (now forms)) ⌝ }
     ensures { λ r. ⌜ r ≡ wordOf n (now (forms .entry)) v (q .0) ⌝ }
 {
     let qubit = q.0 as usize;
     if n <= qubit {
         return 0;
     }
-    let at = 4 * qubit + v;
-    if forms.len() <= at {
-        return 0;
-    }
-    forms[at]
+    forms[4 * qubit + v]
 }
 
 // The lit bit as a constant.
@@ -44,7 +41,7 @@ fn constant(lit: bool) -> u64
 
 // Word v of a row's side: its lit bit plus the forms of its qubits, modulo 2.
 pub fn side_word(n: usize, row: &[u16], lit: bool, v: usize, forms: &[u64]) -> u64
-    requires { ⌜ v < 4 ⌝ }
+    requires { ⌜ (v < 4) × (4 * n ≤ length (now forms)) ⌝ }
     ensures { λ r. ⌜ IsSideWord n (now (forms .entry)) (check lit (now (row .entry))) v r ⌝ }
 {
     let mut side = constant(lit & (v == 0));
@@ -58,7 +55,7 @@ pub fn side_word(n: usize, row: &[u16], lit: bool, v: usize, forms: &[u64]) -> u
 
 // The highest word of a row's side that is not 0, from word `top` down; its word 0 where there is none.
 pub fn highest_part(n: usize, row: &[u16], lit: bool, top: usize, forms: &[u64]) -> Part
-    requires { ⌜ top < 4 ⌝ }
+    requires { ⌜ (top < 4) × (4 * n ≤ length (now forms)) ⌝ }
     ensures { λ r. ⌜ HighestPart n (now (forms .entry)) (check lit (now (row .entry))) top (r .number) (r .word) ⌝ }
 {
     let mut v = top;

@@ -35,7 +35,7 @@ loop-less : tie.Need-loop-less Inv-loop μ-loop
 loop-less c = search needs
 
 loop-again : tie.Need-loop-again Inv-loop μ-loop
-loop-again c = (search needs, side-turn _ _ _ _ _ _ _ (c .before .before .before .loop .inv .1) _ (c .before .before .before .before .before .before .before .pre) (search needs) (c .word-of .ensures))
+loop-again c = (search needs, side-turn _ _ _ _ _ _ _ (c .before .before .before .loop .inv .1) _ (c .before .before .before .before .before .before .before .pre .0) (search needs) (c .word-of .ensures))
 
 returns : tie.Need-returns Inv-loop μ-loop
 returns c = side-end _ _ _ _ _ _ _ (c .before .loop .inv .1) (search needs)
