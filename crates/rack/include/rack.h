@@ -27,7 +27,7 @@ extern "C" {
 /* ---- Numbers ---- */
 
 /* The version of records, lists and structs. */
-#define RACK_VERSION 3
+#define RACK_VERSION 4
 
 /* The kind of a record, its first byte. A row's is this and as many more as it has qubits. */
 enum rack_kind {
@@ -47,19 +47,19 @@ enum rack_most {
     RACK_MOST_QUBITS = 1024,
     RACK_MOST_ROWS = 512,
     RACK_MOST_WEIGHT = 16,
-    RACK_MOST_BUDGET = 63,
+    RACK_MOST_BUDGET = 255,
     RACK_MOST_LIMIT = 65535
 };
 
-/* The least length of each list, in elements. Marks, forms and correction need as many elements as the code has qubits, at a decode only: these
- * are enough for every code. */
+/* The least length of each list, in elements. Marks and correction need as many elements as the code has qubits, forms four times as many, at a
+ * decode only: these are enough for every code. */
 enum rack_least {
     RACK_LEAST_FLAT = 16384,
     RACK_LEAST_ENDS = 1024,
     RACK_LEAST_SHOT = 2048,
     RACK_LEAST_WORK = 10240,
     RACK_LEAST_MARKS = 1024,
-    RACK_LEAST_FORMS = 1024,
+    RACK_LEAST_FORMS = 4096,
     RACK_LEAST_CORRECTION = 1024
 };
 
@@ -80,7 +80,7 @@ enum rack_word {
     RACK_WORD_STOPPED = 5
 };
 
-/* The number of a refusal; 0 where the library refused nothing. */
+/* The number of a refusal; 0 where the library refused nothing. 10 is not used. */
 enum rack_refusal {
     RACK_REFUSAL_UNKNOWN = 1,
     RACK_REFUSAL_LENGTH = 2,
@@ -91,7 +91,6 @@ enum rack_refusal {
     RACK_REFUSAL_CODELESS = 7,
     RACK_REFUSAL_RANGE = 8,
     RACK_REFUSAL_TWICE = 9,
-    RACK_REFUSAL_BUDGET = 10,
     RACK_REFUSAL_SPOILED = 11,
     RACK_REFUSAL_SHORT = 12
 };
@@ -141,8 +140,9 @@ struct rack_state rack_fresh(void);
  *
  * State, `flat`, `ends` and `shot` pass from call to call as the last call left them, also where it refused; nobody else writes them in between. The
  * work list and the six lists of a decode may be others at every call. `shot` has 1 for each lost qubit, else 0, and from element 1,024 on, the X rows
- * first, 1 for each lit row, 2 for each unread one, else 0. After RACK_ANSWER_DECODED the first n elements of a half's lists are its
- * marks, its forms (bit 0 the constant, bit k the k-th live guess) and its correction: 1 for each qubit to flip if it is certain or unsure, else all 0.
+ * first, 1 for each lit row, 2 for each unread one, else 0. After RACK_ANSWER_DECODED the first n elements of a half's marks and correction, and the
+ * first 4 * n of its forms, are what it came to; what is past them stays. The correction has 1 for each qubit to flip if the half is certain or unsure,
+ * else all 0. A form has four words: bit k of qubit q's is bit k % 64 of element 4 * q + k / 64. Bit 0 is the constant, bit k the k-th live guess.
  *
  * The caller owes: pointers that are not null, aligned for their elements and good for the length given; lists that do not overlap.
  * A list shorter than its least length gets RACK_REFUSAL_SHORT, and no refusal writes to a list. Over a state or lists that were altered between
@@ -251,7 +251,7 @@ static inline struct rack_record rack_unread_x(size_t row) {
 }
 
 /* Reports both halves and ends the shot. RACK_MOST_BUDGET and RACK_MOST_LIMIT unless you know better. A budget that a byte can't hold is handed over as
- * 255: RACK_REFUSAL_BUDGET. */
+ * 255, the largest. */
 static inline struct rack_record rack_decode(size_t budget, size_t limit) {
     struct rack_record record = rack_of_kind(RACK_KIND_DECODE);
 
@@ -262,7 +262,7 @@ static inline struct rack_record rack_decode(size_t budget, size_t limit) {
 
 /* ---- A rack with lists that are always long enough ---- */
 
-/* 140 kB: static or from the heap. */
+/* 188 kB: static or from the heap. */
 struct rack {
     uint64_t work[RACK_LEAST_WORK], x_forms[RACK_LEAST_FORMS], z_forms[RACK_LEAST_FORMS];
     uint16_t flat[RACK_LEAST_FLAT], ends[RACK_LEAST_ENDS];
@@ -328,7 +328,6 @@ static inline const char *rack_refusal_name(uint16_t refusal) {
     case RACK_REFUSAL_CODELESS: return "codeless";
     case RACK_REFUSAL_RANGE: return "range";
     case RACK_REFUSAL_TWICE: return "twice";
-    case RACK_REFUSAL_BUDGET: return "budget";
     case RACK_REFUSAL_SPOILED: return "spoiled";
     case RACK_REFUSAL_SHORT: return "short";
     default: return "no refusal";

@@ -71,7 +71,6 @@ names! {
     Codeless = refusal::CODELESS, "codeless";
     Range = refusal::RANGE, "range";
     Twice = refusal::TWICE, "twice";
-    Budget = refusal::BUDGET, "budget";
     Spoiled = refusal::SPOILED, "spoiled";
     Short = refusal::SHORT, "short";
 }

@@ -39,7 +39,7 @@ impl Lists {
 
     /// What a decode of a code of n qubits left here.
     fn half(&self, half: raw::Half, n: usize) -> Result<Half<'_>, Error> {
-        Half::new(half, [&self.marks[..n], &self.correction[..n]], &self.forms[..n])
+        Half::new(half, [&self.marks[..n], &self.correction[..n]], &self.forms[..4 * n])
     }
 }
 

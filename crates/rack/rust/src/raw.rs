@@ -1,7 +1,7 @@
 //! What `include/rack.h` declares, number for number.
 
 /// The version of records, lists and structs.
-pub const VERSION: u16 = 3;
+pub const VERSION: u16 = 4;
 
 /// The kind of a record, its first byte. A row's is this and as many more as it has qubits.
 pub mod kind {
@@ -21,19 +21,19 @@ pub mod most {
     pub const QUBITS: usize = 1024;
     pub const ROWS: usize = 512;
     pub const WEIGHT: usize = 16;
-    pub const BUDGET: usize = 63;
+    pub const BUDGET: usize = 255;
     pub const LIMIT: usize = 65535;
 }
 
-/// The least length of each list, in elements. Marks, forms and correction need as many elements as
-/// the code has qubits, at a decode only: these are enough for every code.
+/// The least length of each list, in elements. Marks and correction need as many elements as the
+/// code has qubits, forms four times as many, at a decode only: these are enough for every code.
 pub mod least {
     pub const FLAT: usize = 16384;
     pub const ENDS: usize = 1024;
     pub const SHOT: usize = 2048;
     pub const WORK: usize = 10240;
     pub const MARKS: usize = 1024;
-    pub const FORMS: usize = 1024;
+    pub const FORMS: usize = 4096;
     pub const CORRECTION: usize = 1024;
 }
 
@@ -54,7 +54,7 @@ pub mod word {
     pub const STOPPED: u16 = 5;
 }
 
-/// The number of a refusal; 0 where the library refused nothing.
+/// The number of a refusal; 0 where the library refused nothing. 10 is not used.
 pub mod refusal {
     pub const UNKNOWN: u16 = 1;
     pub const LENGTH: u16 = 2;
@@ -65,7 +65,6 @@ pub mod refusal {
     pub const CODELESS: u16 = 7;
     pub const RANGE: u16 = 8;
     pub const TWICE: u16 = 9;
-    pub const BUDGET: u16 = 10;
     pub const SPOILED: u16 = 11;
     pub const SHORT: u16 = 12;
 }

@@ -53,7 +53,7 @@ impl Record {
         Record::of(kind::UNREAD_X).and(row)
     }
 
-    /// A budget that a byte can't hold is written as 255, and refused.
+    /// A budget that a byte can't hold is written as 255, the largest.
     pub fn decode(budget: usize, limit: usize) -> Record {
         Record::of(kind::DECODE).byte(budget.min(255) as u8).and(limit)
     }

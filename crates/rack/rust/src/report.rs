@@ -26,7 +26,7 @@ pub struct Report<'a> {
     pub z: Half<'a>,
 }
 
-/// A half's word and counts, and its lists, which have an element for each qubit.
+/// A half's word and counts, and its lists, which have an element for each qubit, forms four.
 #[derive(Clone, Copy, PartialEq, Eq, Debug)]
 pub struct Half<'a> {
     pub word: Word,
@@ -36,7 +36,8 @@ pub struct Half<'a> {
     pub live: u16,
     /// Numbers of marks; `mark` has their names.
     pub marks: &'a [u8],
-    /// Of a settled qubit bit 0 the constant, bit k the k-th live guess; 0 of any other.
+    /// Four words a qubit: bit k of a qubit's form is bit k % 64 of word k / 64. Of a settled qubit
+    /// bit 0 is the constant, bit k the k-th live guess; of any other all are 0.
     pub forms: &'a [u64],
     /// 1 for each qubit to flip, else 0; of a half that is not finished 0.
     pub correction: &'a [u8],
@@ -63,6 +64,11 @@ impl<'a> Half<'a> {
     pub fn flips(&self) -> Option<Vec<usize>> {
         let flipped = |&qubit: &usize| self.correction[qubit] == 1;
         self.finished().then(|| (0..self.correction.len()).filter(flipped).collect())
+    }
+
+    /// The four words of a qubit's form.
+    pub fn form(&self, qubit: usize) -> &'a [u64] {
+        &self.forms[4 * qubit..][..4]
     }
 
     /// What became of a qubit of the code.
