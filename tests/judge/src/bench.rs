@@ -101,21 +101,24 @@ pub fn unread() -> [Bench; 20] {
     ]
 }
 
-fn run_only() -> [Bench; 4] {
-    let qubits: Vec<usize> = (0..64).collect();
-    let free = || Code::new(64);
-    let refused = |name: &str, records: Vec<Record>, at: usize, line: &str| Bench {
-        name: name.into(),
-        records,
-        lines: vec![(at, line.into())],
+/// Qubits on no row with the budgets on both sides of a word's end, and a size out of range.
+fn run_only() -> [Bench; 6] {
+    let qubits: Vec<usize> = (0..256).collect();
+    let free = |lost: usize, n: usize, budget: usize, line: &str| {
+        let name = format!("{lost} free, budget {budget}");
+        shot(&name, Code::new(n), [&qubits[..lost], &[]], [budget, 300], line)
     };
-    let over = vec![records::sizes(64, 0, 0), records::decode(Asked { budget: 64, limit: 100 })];
-    let large = vec![records::sizes(1025, 0, 0)];
     [
-        shot("63 free", free(), [&qubits[..63], &[]], [63, 100], "unsure 0 63 63 63 flip"),
-        shot("64 free", free(), [&qubits, &[]], [63, 100], "spent 0 63 63 63"),
-        refused("budget 64", over, 1, "refused 10 5"),
-        refused("n 1,025", large, 0, "refused 3 1"),
+        free(63, 64, 63, "unsure 0 63 63 63 flip"),
+        free(64, 64, 63, "spent 0 63 63 63"),
+        free(64, 64, 64, "unsure 0 64 64 64 flip"),
+        free(255, 256, 255, "unsure 0 255 255 255 flip"),
+        free(256, 256, 255, "spent 0 255 255 255"),
+        Bench {
+            name: "n 1,025".into(),
+            records: vec![records::sizes(1025, 0, 0)],
+            lines: vec![(0, "refused 3 1".into())],
+        },
     ]
 }
 

@@ -10,6 +10,7 @@ use crate::literal;
 use crate::losses;
 use crate::machine;
 use crate::random::Random;
+use crate::reach::Reach;
 use crate::records;
 use crate::shot::{Decode, Shot};
 use crate::shots::{hexadecimal, lines};
@@ -21,12 +22,13 @@ use std::rc::Rc;
 /// How often each fact was seen to hold, and the first time it did not.
 pub struct Facts {
     rule: Rule,
+    reach: Reach,
     groups: BTreeMap<(String, &'static str), (usize, Option<String>)>,
 }
 
 impl Facts {
     pub fn new(wrong: Wrong) -> Facts {
-        Facts { rule: Rule(wrong), groups: BTreeMap::new() }
+        Facts { rule: Rule(wrong), reach: Reach::default(), groups: BTreeMap::new() }
     }
 
     fn note(&mut self, group: &str, fact: &'static str, holds: Judged, stream: &[Record]) {
@@ -68,6 +70,14 @@ impl Facts {
         }
     }
 
+    /// Whether the shots of the families reached all that they should.
+    pub fn reached(&mut self) {
+        for (what, times) in self.reach.counts() {
+            let failure = (times == 0).then(|| "never".into());
+            self.groups.insert(("reached".into(), what), (times, failure));
+        }
+    }
+
     pub fn family(&mut self, family: Family, random: &mut Random, shots: usize) {
         let mut code = Rc::new(family.draw(random));
         for at in 0..shots {
@@ -75,9 +85,10 @@ impl Facts {
                 code = Rc::new(family.draw(random));
             }
             let shot = losses::shot(random, &code);
-            let asked = losses::asked(random, shot.sets[0].count());
+            let asked = losses::asked(random, &code, &shot);
             let decode = Decode { code: code.clone(), shot, asked };
             let stream = records::whole(&decode);
+            self.reach.add(&decode);
             let rule = self.rule;
             let mut note = |fact, holds| self.note(family.name(), fact, holds, &stream);
             for half in &decode.halves() {

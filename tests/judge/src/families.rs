@@ -16,10 +16,11 @@ pub enum Family {
     Product,
     Bicycle,
     Joined,
+    Late,
 }
 
 impl Family {
-    pub const ALL: [Family; 8] = [
+    pub const ALL: [Family; 9] = [
         Family::Bench,
         Family::Pair,
         Family::Single,
@@ -28,6 +29,7 @@ impl Family {
         Family::Product,
         Family::Bicycle,
         Family::Joined,
+        Family::Late,
     ];
 
     pub fn name(self) -> &'static str {
@@ -40,6 +42,7 @@ impl Family {
             Family::Product => "product",
             Family::Bicycle => "bicycle",
             Family::Joined => "joined",
+            Family::Late => "late",
         }
     }
 
@@ -60,6 +63,7 @@ impl Family {
             Family::Bicycle => gross(random.pick(&[0, 0, 0, 0, 1, 2])),
             Family::Joined if large => joined(random, QUBITS),
             Family::Joined => joined(random, 100),
+            Family::Late => late(random),
         };
         let code = if random.percent(50) { code.mixed(random) } else { code };
         let code = if random.percent(50) { code.turned() } else { code };
@@ -113,6 +117,32 @@ fn single(random: &mut Random) -> Code {
     let rows = random.within(n / 2, n);
     let x = (0..rows).map(|_| random.subset(n, weight, weight)).collect();
     Code { n, x, z: Vec::new() }
+}
+
+/// Many qubits and rather few rows of one kind, which close late. Knots of two rows share qubits that are on most rows and so are guessed first, differ
+/// in a few of these, and end in the same two: the side of the one that closes has old guesses. Knots of four rows on four qubits come last: two
+/// guesses, both replaced.
+fn late(random: &mut Random) -> Code {
+    const TWO: &[&[usize]] = &[&[0, 1], &[0, 1]];
+    const FOUR: &[&[usize]] = &[&[0, 1, 2], &[0, 1, 3], &[0, 2, 3], &[1, 2, 3]];
+    let free = random.within(64, 400).min(300);
+    let shared = [(); 3].map(|()| random.order(free)).concat();
+    let shared = shared[..random.within(2 * free, 3 * free)].chunks(WEIGHT - 4);
+    let knots = shared.map(|shared| (TWO, 2, shared));
+    let last = std::iter::repeat_n((FOUR, 4, &[][..]), random.within(0, 16));
+    let mut code = Code::new(free);
+    for (ends, count, shared) in knots.chain(last) {
+        for end in ends {
+            let apart = match random.below(2) {
+                0 if !shared.is_empty() => vec![random.pick(shared)],
+                _ => random.subset(free, 0, 2),
+            };
+            let end = end.iter().map(|end| code.n + end).collect();
+            code.x.push(sum(code.n + count, &[&shared.to_vec(), &apart, &end]));
+        }
+        code.n += count;
+    }
+    code
 }
 
 /// The hypergraph product of two random classical codes of up to `most` bits.

@@ -84,9 +84,9 @@ impl Maker<'_> {
     fn episode(&mut self, shots: usize) {
         use Family::*;
         #[rustfmt::skip]
-        const OFTEN: [Family; 15] = [
+        const OFTEN: [Family; 16] = [
             Bench, Pair, Pair, Pair, Pair, Pair, Single, Surface, Surface, Toric, Product, Product,
-            Bicycle, Joined, Joined,
+            Bicycle, Joined, Joined, Late,
         ];
         let drawn = self.random.pick(&OFTEN);
         let code = self.mix.family.unwrap_or(drawn).draw(self.random);
@@ -106,7 +106,7 @@ impl Maker<'_> {
 
     fn shot(&mut self, code: &Code) {
         let shot = losses::shot(self.random, code);
-        let mut asked = losses::asked(self.random, shot.sets[0].count());
+        let mut asked = losses::asked(self.random, code, &shot);
         let mut made = records::shot(&shot);
         if self.random.percent(50) {
             self.random.shuffle(&mut made);
@@ -118,8 +118,8 @@ impl Maker<'_> {
         }
         self.push_all(made);
         if self.random.percent(15) {
-            asked.budget = self.random.within(asked.budget, 63);
-            asked.limit = self.random.within(asked.limit, 65_535);
+            asked.budget = self.random.within(asked.budget, Asked::AMPLE.budget);
+            asked.limit = self.random.within(asked.limit, Asked::AMPLE.limit);
             self.push_all([plain, vec![records::decode(asked)]].concat());
         }
     }

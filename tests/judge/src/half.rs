@@ -1,6 +1,7 @@
 //! A half's input and what is said of it.
 
 use crate::bits::Bits;
+use crate::form::Form;
 
 pub type Row = Vec<usize>;
 
@@ -31,7 +32,7 @@ pub struct Asked {
 
 impl Asked {
     /// The largest budget and limit.
-    pub const AMPLE: Asked = Asked { budget: 63, limit: 65_535 };
+    pub const AMPLE: Asked = Asked { budget: 255, limit: 65_535 };
 }
 
 #[derive(Clone, Copy, PartialEq, Eq, Debug)]
@@ -86,14 +87,14 @@ pub mod mark {
     pub const OPEN: u8 = 4;
 }
 
-/// A half's report and the first n elements of its three lists.
+/// A half's report, and of its three lists what is about the n qubits.
 #[derive(Clone, PartialEq, Eq, Debug)]
 pub struct Report {
     pub word: Word,
     pub counts: Counts,
     pub correction: Vec<u8>,
     pub marks: Vec<u8>,
-    pub forms: Vec<u64>,
+    pub forms: Vec<Form>,
 }
 
 impl Report {

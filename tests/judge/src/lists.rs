@@ -1,6 +1,7 @@
 //! Judges a half's three lists: marks that agree with the counts, and demand 3.
 
 use crate::bits::Bits;
+use crate::form::Form;
 use crate::half::{mark, Counts, Half, Report, Word};
 use crate::judge::{ensure, Judged, Verdict};
 use crate::linear::Span;
@@ -11,7 +12,7 @@ impl Verdict {
         let Report { word, correction, marks, forms, .. } = report;
         ensure(word.finished() || zero(correction), || "a correction handed out".into())?;
         if *word == Word::None {
-            let empty = zero(marks) && forms.iter().all(|&form| form == 0);
+            let empty = zero(marks) && forms.iter().all(|&form| form == Form::ZERO);
             return ensure(empty, || "lists not empty after none".into());
         }
         for qubit in 0..half.n {
@@ -40,11 +41,11 @@ impl Verdict {
             mark::PEELED | mark::GUESSED | mark::OPEN => half.lost.get(qubit) && !fixed,
             _ => false,
         };
-        let bits = 64 - form.leading_zeros() as usize;
-        let formed = if settled { bits <= report.counts.live + 1 } else { form == 0 };
-        ensure(right && formed, || format!("qubit {qubit}: mark {mark} form {form:x}"))?;
-        let flipped = u64::from(report.correction[qubit]);
-        let agrees = !report.word.finished() || flipped == form & 1;
+        let live = form.highest() <= Some(report.counts.live);
+        let formed = if settled { live } else { form == Form::ZERO };
+        ensure(right && formed, || format!("qubit {qubit}: mark {mark} {form:x?}"))?;
+        let constant = u8::from(form.get(0));
+        let agrees = !report.word.finished() || report.correction[qubit] == constant;
         ensure(agrees, || format!("qubit {qubit}: correction and form disagree"))
     }
 }
@@ -59,15 +60,16 @@ fn fillings(half: &Half, report: &Report) -> Judged {
         let open = row.iter().filter(|&&q| is(q, &[mark::OPEN])).count();
         ensure(open != 1 || *word != Word::Spent, || format!("spent, yet row {at} dangles"))?;
         if open == 0 {
-            let side = row.iter().fold(u64::from(half.lit.get(at)), |sum, &q| sum ^ forms[q]);
-            ensure(side == 0, || format!("closed row {at} has side {side:x}"))?;
+            let lit = if half.lit.get(at) { Form::ONE } else { Form::ZERO };
+            let side = row.iter().fold(lit, |sum, &q| sum ^ forms[q]);
+            ensure(side == Form::ZERO, || format!("closed row {at} has side {side:x?}"))?;
             let free = row.iter().copied().filter(|&q| is(q, &[mark::PEELED, mark::GUESSED]));
             closed.push(Bits::of(half.n, free));
         }
     }
     let dimension = counts.turns - Span::of(half.n, closed).rank();
     ensure(dimension == counts.live, || format!("fillings have dimension {dimension}"))?;
-    let own = |k: &usize| (0..half.n).any(|q| is(q, &[mark::GUESSED]) && forms[q] == 1 << k);
+    let own = |k: &usize| (0..half.n).any(|q| is(q, &[mark::GUESSED]) && forms[q] == Form::bit(*k));
     let each = (1..=counts.live).all(|k| own(&k));
     ensure(each, || "a live guess without a qubit of its own".into())
 }

@@ -3,9 +3,10 @@
 use crate::bits::Bits;
 use crate::codes::{odd, set, Code};
 use crate::half::{Asked, Row, Word};
-use crate::machine;
+use crate::machine::{self, Course};
 use crate::random::Random;
 use crate::shot::Shot;
+use crate::wrong::Wrong;
 
 /// Half of the shots may have unread rows.
 pub fn shot(random: &mut Random, code: &Code) -> Shot {
@@ -17,7 +18,8 @@ pub fn shot(random: &mut Random, code: &Code) -> Shot {
         }
     }
     if code.n >= 64 && random.percent(20) {
-        shot.sets[0] = brink(random, code, &shot);
+        let brink = brink(random, code, &shot);
+        shot.sets[0] = brink.unwrap_or(shot.sets[0].clone());
     }
     for (kind, unread, rows) in [(3, 6, &code.z), (4, 7, &code.x)] {
         let mut lit = lit(random, code.n, rows, &shot.sets[0]);
@@ -29,6 +31,7 @@ pub fn shot(random: &mut Random, code: &Code) -> Shot {
 
 fn lost(random: &mut Random, code: &Code) -> Bits {
     let n = code.n;
+    let few_rows = 2 * code.x.len().max(code.z.len()) < n;
     match random.below(10) {
         0 => random.pick(&[Bits::new, full])(n),
         1 => some(random, n, 8),
@@ -40,6 +43,10 @@ fn lost(random: &mut Random, code: &Code) -> Bits {
         3 => {
             let (from, to) = (random.below(n + 1), random.below(n + 1));
             Bits::of(n, from.min(to)..from.max(to))
+        }
+        4 | 5 if few_rows => {
+            let density = random.pick(&[85, 90, 95, 98]);
+            Bits::of(n, (0..n).filter(|_| random.percent(density)))
         }
         4..=6 => rows(random, code),
         _ => {
@@ -83,23 +90,35 @@ fn unread(random: &mut Random, rows: &[Row], lost: &Bits) -> Bits {
     Bits::of(rows.len(), unread)
 }
 
-/// A set on which 63 guesses just do or just do not suffice for one half.
-fn brink(random: &mut Random, code: &Code, shot: &Shot) -> Bits {
+/// The last bit of each word of a form.
+const ENDS: [usize; 4] = [63, 127, 191, 255];
+
+/// A set on which guesses up to the end of some word just do or just do not suffice for one half; nothing if they do for all qubits.
+fn brink(random: &mut Random, code: &Code, shot: &Shot) -> Option<Bits> {
     let order = random.order(code.n);
     let first = |count: usize| set(code.n, &order[..count]);
-    let which = random.below(2);
-    let spent = |count: usize| {
+    let which = match [code.z.is_empty(), code.x.is_empty()] {
+        [true, false] => 1,
+        [false, true] => 0,
+        _ => random.below(2),
+    };
+    let needs = |count: usize| {
         let mut shot = shot.clone();
         shot.sets[0] = first(count);
-        let half = &shot.halves(code)[which];
-        machine::decode(half, Asked::AMPLE).word == Word::Spent
+        machine::needs(Wrong::Nothing, &shot.halves(code)[which])
     };
-    let (mut enough, mut over) = (0, code.n);
-    while over - enough > 1 {
-        let middle = (enough + over) / 2;
-        *(if spent(middle) { &mut over } else { &mut enough }) = middle;
+    let over = |needs: Course, end: usize| needs.live > end || needs.word == Word::Spent;
+    let all = needs(code.n);
+    let ends: Vec<usize> = ENDS.into_iter().filter(|&end| over(all, end)).collect();
+    let last = *ends.last()?;
+    let any = random.pick(&ends);
+    let end = random.pick(&[any, last]);
+    let (mut enough, mut more) = (0, code.n);
+    while more - enough > 1 {
+        let middle = (enough + more) / 2;
+        *(if over(needs(middle), end) { &mut more } else { &mut enough }) = middle;
     }
-    first(random.pick(&[enough, over]))
+    Some(first(random.pick(&[enough, more])))
 }
 
 /// Mostly the rows that an error on the lost set fires.
@@ -122,12 +141,15 @@ fn lit(random: &mut Random, n: usize, rows: &[Row], lost: &Bits) -> Bits {
     lit
 }
 
-pub fn asked(random: &mut Random, lost: usize) -> Asked {
-    let budget = match random.below(8) {
+pub fn asked(random: &mut Random, code: &Code, shot: &Shot) -> Asked {
+    let lost = shot.sets[0].count();
+    let budget = match random.below(10) {
         0 => random.within(0, 1),
         1 => random.within(0, 6),
-        2 => random.within(0, 63),
-        _ => 63,
+        2 => random.within(0, 255),
+        3 => random.pick(&[63, 64, 65, 127, 128, 191, 192, 254]),
+        4 => just(random, code, shot),
+        _ => 255,
     };
     let limit = match random.below(8) {
         0 => random.within(0, lost),
@@ -137,4 +159,11 @@ pub fn asked(random: &mut Random, lost: usize) -> Asked {
         _ => 65_535,
     };
     Asked { budget, limit }
+}
+
+/// A budget that just does or just does not suffice for one half.
+fn just(random: &mut Random, code: &Code, shot: &Shot) -> usize {
+    let half = &shot.halves(code)[random.below(2)];
+    let live = machine::needs(Wrong::Nothing, half).live;
+    live.saturating_sub(random.below(2))
 }

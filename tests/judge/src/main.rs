@@ -100,6 +100,7 @@ fn check_self(arguments: &Arguments) -> Result<bool, String> {
     for family in Family::ALL {
         facts.family(family, &mut random, shots.div_ceil(Family::ALL.len()));
     }
+    facts.reached();
     counts(facts.print())
 }
 

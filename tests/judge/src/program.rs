@@ -46,19 +46,11 @@ impl Program {
         Ok(seen)
     }
 
-    /// Random streams with so many shots.
+    /// The streams of a seed, with so many shots.
     pub fn seed(&self, seed: u64, shots: usize) -> Result<Seen, Failure> {
         let mut seen = Seen::new();
-        let mut random = Random::new(seed);
-        let mut done = 0;
-        while done < shots {
-            let some = random.pick(&[1, 4, 16, 64, 256]).min(shots - done);
-            let trouble = random.pick(&[0, 5, 15, 40]);
-            let mix = Mix { trouble, wild: false, family: None };
-            let stream = records(&mut random, some, mix);
-            let fail = |failure| Failure { passed: done, ..failure };
-            self.examine(&stream, &mut seen).map_err(fail)?;
-            done += some;
+        for (passed, stream) in streams(seed, shots) {
+            self.examine(&stream, &mut seen).map_err(|failure| Failure { passed, ..failure })?;
         }
         Ok(seen)
     }
@@ -118,6 +110,20 @@ impl Program {
         }
         failure
     }
+}
+
+/// Random streams with so many shots, and how many there were before each.
+pub fn streams(seed: u64, shots: usize) -> impl Iterator<Item = (usize, Vec<Record>)> {
+    let mut random = Random::new(seed);
+    let mut done = 0;
+    std::iter::from_fn(move || {
+        let some = random.pick(&[1, 4, 16, 64, 256]).min(shots - done);
+        let trouble = random.pick(&[0, 5, 15, 40]);
+        let mix = Mix { trouble, wild: false, family: None };
+        let before = done;
+        done += some;
+        (some > 0).then(|| (before, records(&mut random, some, mix)))
+    })
 }
 
 /// Writes the input, a short one in pieces; a program may end before it is all read.

@@ -1,6 +1,7 @@
 //! Single records that are often refused.
 
 use crate::codes::{QUBITS, WEIGHT};
+use crate::form::WORDS;
 use crate::half::Asked;
 use crate::random::Random;
 use crate::records;
@@ -17,7 +18,7 @@ pub fn stray(random: &mut Random, model: &Model) -> Record {
         (_, 1) => bad_sizes(random),
         (_, 2) => row(random, Z_ROW, n),
         (_, 3 | 4) => {
-            let budget = random.pick(&[0, 1, 2, 63, 64]);
+            let budget = random.pick(&[0, 1, 2, 63, 64, 255]);
             records::decode(Asked { budget, limit: random.below(6) })
         }
         _ => {
@@ -80,9 +81,12 @@ pub fn shortened(random: &mut Random, records: Vec<Record>, chance: usize) -> Ve
     let mut calls = Vec::new();
     for record in records {
         if random.percent(chance) {
-            let short = random.percent(50);
-            let room = if short { QUBITS } else { random.below(QUBITS) };
-            calls.push((record.clone(), Lent { short, room }));
+            let lent = match random.below(4) {
+                0 | 1 => Lent { short: true, ..Lent::AMPLE },
+                2 => Lent { room: random.below(QUBITS), ..Lent::AMPLE },
+                _ => Lent { forms: random.below(WORDS * QUBITS), ..Lent::AMPLE },
+            };
+            calls.push((record.clone(), lent));
         }
         calls.push((record, Lent::AMPLE));
     }

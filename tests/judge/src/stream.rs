@@ -1,6 +1,7 @@
 //! The record protocol: each record's answer and what it leaves.
 
 use crate::codes::{Code, QUBITS, ROWS};
+use crate::form::WORDS;
 use crate::half::{Asked, Row};
 use crate::shot::{size, Decode, Shot, KINDS};
 use crate::wrong::Wrong;
@@ -13,12 +14,14 @@ pub type Record = Vec<u8>;
 pub struct Lent {
     /// Whether a work, code or shot list is below its least length.
     pub short: bool,
-    /// The length of the shortest of a decode's six lists.
+    /// The length of the shortest of a decode's marks and corrections.
     pub room: usize,
+    /// The length of the shorter of its two lists of forms, in words.
+    pub forms: usize,
 }
 
 impl Lent {
-    pub const AMPLE: Lent = Lent { short: false, room: QUBITS };
+    pub const AMPLE: Lent = Lent { short: false, room: QUBITS, forms: WORDS * QUBITS };
 }
 
 pub enum Answer {
@@ -108,7 +111,8 @@ impl Model {
         let Some((&kind, bytes)) = record.split_first() else {
             return number == 2;
         };
-        let room = self.code().is_none_or(|code| lent.room >= code.n);
+        let enough = |n: usize| lent.room >= n && lent.forms >= WORDS * n;
+        let room = self.code().is_none_or(|code| enough(code.n));
         let short = lent.short || (kind == 5 && !room);
         match (number, kind) {
             (1, _) => body(kind).is_none(),
@@ -125,7 +129,7 @@ impl Model {
             (7, 2..=7) => self.code().is_none(),
             (8, _) if KINDS.contains(&kind) => !self.there(kind, numbers(bytes)[0]),
             (9, _) if KINDS.contains(&kind) => !short && self.twice(kind, numbers(bytes)[0]),
-            (10, 5) => bytes[0] > 63,
+            (10, 5) => self.wrong.refuses(bytes[0]),
             (11, 5) => matches!(self.state, State::Ready { spoiled: true, .. }),
             (12, _) => short,
             _ => false,

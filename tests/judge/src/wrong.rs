@@ -1,9 +1,11 @@
 //! Deliberately wrong rules, to see that the tests catch them.
 
 use crate::codes::Code;
+use crate::form::{Form, BITS, WORDS};
 use crate::half::{Half, Row};
 use crate::judge;
 use crate::shot::alike;
+use std::cmp::Reverse;
 
 macro_rules! wrongs {
     ($($variant:ident $name:literal)*) => {
@@ -35,8 +37,15 @@ wrongs! {
     PairsOfTheStart "pairs-of-the-start"
     OldestReplaced "oldest-replaced"
     BitKept "bit-kept"
-    HalfForms "forms-of-32-bits"
-    TopLost "forms-of-63-bits"
+    NewestOfLowest "newest-of-the-lowest-word"
+    LostAt64 "lost-at-border-64"
+    LostAt128 "lost-at-border-128"
+    LostAt192 "lost-at-border-192"
+    NoBit63 "bit-63-lost"
+    OneWord "forms-of-64-bits"
+    TwoWords "forms-of-128-bits"
+    ThreeWords "forms-of-192-bits"
+    NoTop "forms-of-255-bits"
     // Its end.
     BudgetFirst "budget-first"
     BudgetOverall "budget-overall"
@@ -60,13 +69,10 @@ wrongs! {
     SevenDrops "loading-dropped-after-7"
     EightForgives "unspoiled-after-8"
     NineForgives "unspoiled-after-9"
-    TenSpoils "spoiled-after-10"
-    TenKeeps "shot-kept-after-10"
     ElevenSpoils "spoiled-after-11"
     // Which refusal is given.
     FiveFirst "5-before-4"
-    TenFirst "10-before-7"
-    ElevenFirst "11-before-10"
+    BudgetRefused "budget-64-refused"
     SixUnseen "never-6"
     NineUnseen "never-9"
     LitAfterUnread "no-9-for-lit-after-unread"
@@ -105,16 +111,18 @@ impl Wrong {
     /// The order in which refusals are tried.
     pub fn order(self) -> Vec<u8> {
         let mut order: Vec<u8> = (1..=12).collect();
-        let mut first = |early: usize, late: usize| order[early - 1..late].rotate_right(1);
         match self {
-            Wrong::FiveFirst => first(4, 5),
-            Wrong::TenFirst => first(7, 10),
-            Wrong::ElevenFirst => first(10, 11),
+            Wrong::FiveFirst => order.swap(3, 4),
             Wrong::SixUnseen => order.retain(|&number| number != 6),
             Wrong::NineUnseen => order.retain(|&number| number != 9),
             _ => {}
         }
         order
+    }
+
+    /// Whether a budget gets refusal 10, as none does.
+    pub fn refuses(self, budget: u8) -> bool {
+        self == Wrong::BudgetRefused && budget > 63
     }
 
     /// The refusal whose last column is followed.
@@ -126,10 +134,9 @@ impl Wrong {
             | (Wrong::FiveKeeps, 5)
             | (Wrong::SixKeeps, 6)
             | (Wrong::EightForgives, 8)
-            | (Wrong::NineForgives, 9)
-            | (Wrong::TenKeeps, 10) => NOTHING_CHANGED,
+            | (Wrong::NineForgives, 9) => NOTHING_CHANGED,
             (Wrong::SevenDrops, 7) => 3,
-            (Wrong::TenSpoils, 10) | (Wrong::ElevenSpoils, 11) => 8,
+            (Wrong::ElevenSpoils, 11) => 8,
             _ => number,
         }
     }
@@ -195,13 +202,45 @@ impl Wrong {
         }
     }
 
-    /// The bits that a new guess can have.
-    pub fn form_bits(self) -> u64 {
-        match self {
-            Wrong::HalfForms => u64::MAX >> 32,
-            Wrong::TopLost => u64::MAX >> 1,
-            _ => u64::MAX,
+    /// The form of a new guess.
+    pub fn guessed(self, bit: usize) -> Form {
+        let kept = match self {
+            Wrong::NoBit63 => bit != 63,
+            Wrong::OneWord => bit < 64,
+            Wrong::TwoWords => bit < 128,
+            Wrong::ThreeWords => bit < 192,
+            Wrong::NoTop => bit != BITS - 1,
+            _ => true,
+        };
+        if kept {
+            Form::bit(bit)
+        } else {
+            Form::ZERO
         }
+    }
+
+    /// The guess in a side that is replaced: the newest.
+    pub fn replaced(self, side: Form) -> usize {
+        let word = |at: usize| (64 * at).max(1)..64 * (at + 1);
+        let found = match self {
+            Wrong::OldestReplaced => (1..BITS).find(|&bit| side.get(bit)),
+            Wrong::NewestOfLowest => (0..WORDS).find_map(|at| word(at).rfind(|&bit| side.get(bit))),
+            _ => side.highest(),
+        };
+        found.expect("a guess")
+    }
+
+    /// A form without a guess that was replaced: later ones move down.
+    pub fn closed_up(self, form: Form, guess: usize) -> Form {
+        let border = match self {
+            Wrong::BitKept => return form,
+            Wrong::LostAt64 => 64,
+            Wrong::LostAt128 => 128,
+            Wrong::LostAt192 => 192,
+            _ => 0,
+        };
+        let lost = guess < border && form.get(border);
+        (if lost { form ^ Form::bit(border) } else { form }).without(guess)
     }
 
     /// The rows that do this: those that were read, ascending.
@@ -221,14 +260,31 @@ impl Wrong {
         half.lit.get(row) || (self == Wrong::UnreadLit && half.unread.get(row))
     }
 
-    /// The rows on which a guess is counted.
-    pub fn counted<'a>(self, half: &Half<'a>) -> Vec<&'a Row> {
-        let all = half.rows;
-        let rows = self.rows(half, Part::Count).into_iter().map(|at| &all[at]);
+    /// The rows that count for the guess, those of the other kind after the half's.
+    pub fn counted(self, half: &Half) -> Vec<usize> {
+        let (own, other) = (half.rows.len(), half.other.len());
+        let rows = self.rows(half, Part::Count);
         match self {
             Wrong::GuessLowest => Vec::new(),
-            Wrong::GuessByBoth => rows.chain(half.other).collect(),
-            _ => rows.collect(),
+            Wrong::GuessByBoth => rows.into_iter().chain(own..own + other).collect(),
+            _ => rows,
         }
+    }
+
+    /// The qubits by how many rows that count they are on, most first, then by their numbers.
+    pub fn order_of_equals<'a>(
+        self,
+        n: usize,
+        counted: impl Iterator<Item = &'a Row>,
+    ) -> Vec<usize> {
+        let mut rows = vec![0; n];
+        counted.flatten().for_each(|&qubit| rows[qubit] += 1);
+        let mut order: Vec<usize> = (0..n).collect();
+        match self {
+            Wrong::GuessByPairs => {}
+            Wrong::GuessHighest => order.sort_by_key(|&qubit| Reverse((rows[qubit], qubit))),
+            _ => order.sort_by_key(|&qubit| (Reverse(rows[qubit]), qubit)),
+        }
+        order
     }
 }

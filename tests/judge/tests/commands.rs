@@ -12,7 +12,7 @@ fn judge(arguments: &[&str]) -> (bool, String) {
 
 #[test]
 fn the_facts_hold() {
-    let (success, printed) = judge(&["self", "--seed", "1", "--shots", "700"]);
+    let (success, printed) = judge(&["self", "--seed", "1", "--shots", "1500"]);
     assert!(success && printed.ends_with(" passed, 0 failed\n"), "{printed}");
 }
 
