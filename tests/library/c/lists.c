@@ -6,12 +6,12 @@
 #include <stdlib.h>
 
 enum { FLAT, ENDS, SHOT, WORK, X_MARKS, X_FORMS, X_CORRECTION, Z_MARKS, Z_FORMS, Z_CORRECTION, LISTS };
-enum { N = 4, RECORDS = 15, DECODES = 2 };
+enum { N = 4, FORMS = 4 * N, RECORDS = 15, DECODES = 2 };
 
 static const char *const names[LISTS] = {
     "flat", "ends", "shot", "work", "x_marks", "x_forms", "x_correction", "z_marks", "z_forms", "z_correction"};
 static const size_t widths[LISTS] = {2, 2, 1, 8, 1, 8, 1, 1, 8, 1};
-static const size_t least[LISTS] = {RACK_LEAST_FLAT, RACK_LEAST_ENDS, RACK_LEAST_SHOT, RACK_LEAST_WORK, N, N, N, N, N, N};
+static const size_t least[LISTS] = {RACK_LEAST_FLAT, RACK_LEAST_ENDS, RACK_LEAST_SHOT, RACK_LEAST_WORK, N, FORMS, N, N, FORMS, N};
 
 /* The records and their answers. */
 static const struct {
@@ -41,17 +41,17 @@ static const struct decode {
     int record, begins;
     struct rack_half halves[2];
     uint8_t marks[2][N];
-    uint64_t forms[2][N];
+    uint64_t forms[2][FORMS];
     uint8_t flips[2][N];
 } decodes[DECODES] = {
     {6, 3, {{RACK_WORD_UNSURE, 0, 2, 1, 1}, {RACK_WORD_UNSURE, 0, 2, 1, 1}},
      {{RACK_MARK_GUESSED, RACK_MARK_PEELED, RACK_MARK_NOT_LOST, RACK_MARK_NOT_LOST},
       {RACK_MARK_GUESSED, RACK_MARK_PEELED, RACK_MARK_NOT_LOST, RACK_MARK_NOT_LOST}},
-     {{2, 3, 0, 0}, {2, 2, 0, 0}}, {{0, 1, 0, 0}, {0, 0, 0, 0}}},
+     {{2, 0, 0, 0, 3}, {2, 0, 0, 0, 2}}, {{0, 1, 0, 0}, {0, 0, 0, 0}}},
     {11, 9, {{RACK_WORD_UNSURE, 0, 1, 1, 1}, {RACK_WORD_CERTAIN, 0, 1, 0, 0}},
      {{RACK_MARK_NOT_LOST, RACK_MARK_NOT_LOST, RACK_MARK_GUESSED, RACK_MARK_NOT_LOST},
       {RACK_MARK_NOT_LOST, RACK_MARK_NOT_LOST, RACK_MARK_PEELED, RACK_MARK_NOT_LOST}},
-     {{0, 0, 2, 0}, {0, 0, 0, 0}}, {{0, 0, 0, 0}, {0, 0, 0, 0}}},
+     {{0, 0, 0, 0, 0, 0, 0, 0, 2}, {0}}, {{0, 0, 0, 0}, {0, 0, 0, 0}}},
 };
 
 struct lent {
@@ -155,7 +155,7 @@ static void expect_decoded(const struct lent *lent, const struct rack_reply *rep
     expect(memcmp(&reply->x, &decode->halves[0], sizeof reply->x) == 0, record, "the X half");
     expect(memcmp(&reply->z, &decode->halves[1], sizeof reply->z) == 0, record, "the Z half");
     for (int list = X_MARKS; list < LISTS; list++)
-        expect(memcmp(lent->list[list], lists[list - X_MARKS], N * widths[list]) == 0, record, names[list]);
+        expect(memcmp(lent->list[list], lists[list - X_MARKS], least[list] * widths[list]) == 0, record, names[list]);
 }
 
 /* The records from `first` to before `last`. */
@@ -211,6 +211,8 @@ int main(void) {
                 continue;
             one_short(list, least[list] - 1, record);
             one_short(list, 0, record);
+            if (list == X_FORMS || list == Z_FORMS)
+                one_short(list, N, record);
         }
         end_case(names[list], " short");
     }

@@ -70,7 +70,7 @@ fn any_record(random: &mut Random) -> Record {
         1 => made::row(row, &random.subset(QUBITS, 1, WEIGHT)),
         2 => (0..random.below(40)).map(|_| random.word() as u8).collect(),
         3..=9 => made::number(kind, number(random, QUBITS)),
-        _ => made::decode(Asked { budget: number(random, 63), limit: number(random, 65_535) }),
+        _ => made::decode(Asked { budget: number(random, 255), limit: number(random, 65_535) }),
     }
 }
 

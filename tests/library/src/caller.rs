@@ -66,7 +66,7 @@ impl Caller {
         from..from + bytes
     }
 
-    /// How many elements the record needs in the six lists.
+    /// For how many qubits the record needs elements in the six lists.
     pub fn needed(&self, record: &[u8]) -> usize {
         let decodes = record.first() == Some(&kind::DECODE) && self.state.phase == phase::READY;
         if decodes {

@@ -12,14 +12,14 @@ use judge::records;
 pub fn large(seed: u64, shots: usize) -> Checked {
     let mut random = Random::new(seed);
     let mut session = Session::new(random.word(), 1);
-    for code in [surface(32), toric(22), full()] {
+    for code in [surface(32), toric(22), full(), sparse(&mut random)] {
         let code = code.mixed(&mut random);
         watch::case();
         session.restart();
         session.calls(&records::load(&code), Lengths::above)?;
         for _ in 0..shots.div_ceil(200) {
             let shot = losses::shot(&mut random, &code);
-            let asked = losses::asked(&mut random, shot.sets[0].count());
+            let asked = losses::asked(&mut random, &code, &shot);
             session.calls(&records::shot(&shot), Lengths::above)?;
             session.calls(&[records::decode(asked)], Lengths::above)?;
         }
@@ -32,4 +32,10 @@ fn full() -> Code {
     let block = |at: usize| (0..WEIGHT).map(|qubit| (at * WEIGHT + qubit) % QUBITS).collect();
     let rows: Vec<_> = (0..ROWS).map(block).collect();
     Code { n: QUBITS, x: rows.clone(), z: rows }
+}
+
+/// All qubits that a code can have on few rows of the largest weight, of one kind.
+fn sparse(random: &mut Random) -> Code {
+    let x = (0..ROWS / 4).map(|_| random.subset(QUBITS, WEIGHT, WEIGHT)).collect();
+    Code { n: QUBITS, x, z: Vec::new() }
 }

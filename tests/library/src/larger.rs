@@ -20,7 +20,7 @@ pub fn larger(seed: u64, shots: usize) -> Checked {
     for _ in 0..shots.div_ceil(8) {
         let code = random.pick(&Family::ALL).draw(&mut random);
         let shot = losses::shot(&mut random, &code);
-        let [asked, larger] = two_asked(&mut random, shot.sets[0].count());
+        let [asked, larger] = two_asked(&mut random, &code, &shot);
         watch::case();
         callers[0].restart();
         let first = decoded(&mut callers[0], &mut random, &code, &shot, asked)?;
@@ -38,15 +38,16 @@ pub fn larger(seed: u64, shots: usize) -> Checked {
 }
 
 /// A budget and a limit, and others no smaller.
-fn two_asked(random: &mut Random, lost: usize) -> [Asked; 2] {
-    let mut asked = losses::asked(random, lost);
+fn two_asked(random: &mut Random, code: &Code, shot: &Shot) -> [Asked; 2] {
+    let most = Asked::AMPLE;
+    let mut asked = losses::asked(random, code, shot);
     if random.percent(50) {
         asked.budget = random.below(16);
     }
-    let budget = random.within(asked.budget, 63);
-    let limit = random.within(asked.limit, 65_535);
-    let budget = random.pick(&[asked.budget, budget, 63]);
-    let limit = random.pick(&[asked.limit, limit, 65_535]);
+    let budget = random.within(asked.budget, most.budget);
+    let limit = random.within(asked.limit, most.limit);
+    let budget = random.pick(&[asked.budget, budget, most.budget]);
+    let limit = random.pick(&[asked.limit, limit, most.limit]);
     [asked, Asked { budget, limit }]
 }
 

@@ -1,5 +1,6 @@
 //! How long each of the ten lists is in a call.
 
+use judge::form::WORDS;
 use judge::random::Random;
 use judge::stream::Lent;
 use rack::raw::least;
@@ -29,6 +30,9 @@ pub const SIX: usize = 4;
 /// The least lengths of `flat`, `ends`, `shot` and `work`.
 pub const LEAST: [usize; SIX] = [least::FLAT, least::ENDS, least::SHOT, least::WORK];
 
+/// How many elements each of the six has for a qubit.
+pub const EACH: [usize; NAMES.len() - SIX] = [1, WORDS, 1, 1, WORDS, 1];
+
 /// How many times its least length a list can have.
 pub const TIMES: usize = 4;
 
@@ -37,10 +41,11 @@ pub const TIMES: usize = 4;
 pub struct Lengths(pub [usize; 10]);
 
 impl Lengths {
-    /// The least, the six lists with `n` elements.
+    /// The least, the six lists for `n` qubits.
     pub fn least(n: usize) -> Lengths {
-        let mut lengths = [n; 10];
+        let mut lengths = [0; 10];
         lengths[..SIX].copy_from_slice(&LEAST);
+        lengths[SIX..].copy_from_slice(&EACH.map(|each| each * n));
         Lengths(lengths)
     }
 
@@ -66,7 +71,7 @@ impl Lengths {
         for _ in 0..random.within(1, 2) {
             let list = random.below(NAMES.len());
             let any = random.below(least[list]);
-            self.0[list] = random.pick(&[0, any, least[list] - 1]);
+            self.0[list] = random.pick(&[0, any, least[list] / WORDS, least[list] - 1]);
         }
         self
     }
@@ -74,7 +79,11 @@ impl Lengths {
     /// What the model is told of them.
     pub fn lent(&self) -> Lent {
         let short = self.0.iter().zip(LEAST).any(|(&length, least)| length < least);
-        Lent { short, room: *self.0[SIX..].iter().min().expect("six lists") }
+        let shortest = |each: usize| {
+            let lists = self.0[SIX..].iter().zip(EACH).filter(|(_, its)| *its == each);
+            lists.map(|(&length, _)| length).min().expect("lists of both kinds")
+        };
+        Lent { short, room: shortest(1), forms: shortest(WORDS) }
     }
 
     /// Names the lists below their least length, for the trace.

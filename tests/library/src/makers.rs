@@ -72,7 +72,7 @@ fn names() -> Vec<Asking> {
         "codeless",
         "range",
         "twice",
-        "budget",
+        "no refusal",
         "spoiled",
         "short",
         "no refusal",

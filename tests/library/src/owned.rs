@@ -58,10 +58,12 @@ fn shows(half: &Half, report: &Report) -> bool {
     let counts = [half.fixed, half.turns, half.guesses, half.live].map(usize::from);
     let expected = said.counts;
     let marks = (0..half.marks.len()).map(|qubit| half.mark(qubit).map(|mark| mark.number()));
+    let forms = (0..half.marks.len()).map(|qubit| half.form(qubit));
     half.word.name() == report.word.name()
         && counts == [expected.fixed, expected.turns, expected.guesses, expected.live]
         && marks.collect::<Result<Vec<u8>, Error>>().as_ref() == Ok(&report.marks)
-        && half.forms == report.forms
+        && forms.eq(report.forms.iter().map(|form| &form.0[..]))
+        && half.forms == report.forms.iter().flat_map(|form| form.0).collect::<Vec<u64>>()
         && half.correction == report.correction
         && half.flips() == said.flips
 }

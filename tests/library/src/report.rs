@@ -2,6 +2,7 @@
 
 use crate::caller::Caller;
 use crate::lengths::{Lengths, SIX};
+use judge::form::{Form, WORDS};
 use judge::half::{Counts, Report, Word};
 use judge::stream::Record;
 use rack::raw::{answer, Half, Reply};
@@ -21,8 +22,15 @@ pub fn number(word: Word) -> u16 {
 
 /// The bytes of marks, forms and correction.
 pub fn lists(report: &Report) -> [Vec<u8>; 3] {
-    let forms = report.forms.iter().flat_map(|form| form.to_ne_bytes()).collect();
+    let words = report.forms.iter().flat_map(|form| form.0);
+    let forms = words.flat_map(u64::to_ne_bytes).collect();
     [report.marks.clone(), forms, report.correction.clone()]
+}
+
+/// A form by its bytes.
+fn form(bytes: &[u8]) -> Form {
+    let word = |at: usize| bytes[8 * at..][..8].try_into().expect("8 bytes");
+    Form(std::array::from_fn(|at| u64::from_ne_bytes(word(at))))
 }
 
 /// A reply and what it reports of the two halves, if it decoded.
@@ -47,7 +55,7 @@ impl Caller {
         let read = |half: Half, first: usize| {
             let [fixed, turns, guesses, live] =
                 [half.fixed, half.turns, half.guesses, half.live].map(usize::from);
-            let forms = self.after(first + 1)[..8 * n].chunks_exact(8);
+            let forms = self.after(first + 1)[..8 * WORDS * n].chunks_exact(8 * WORDS);
             Report {
                 word: Word::ALL
                     .into_iter()
@@ -55,7 +63,7 @@ impl Caller {
                     .expect("a word"),
                 counts: Counts { fixed, turns, guesses, live },
                 marks: self.after(first)[..n].into(),
-                forms: forms.map(|form| u64::from_ne_bytes(form.try_into().expect("8"))).collect(),
+                forms: forms.map(form).collect(),
                 correction: self.after(first + 2)[..n].into(),
             }
         };

@@ -1,7 +1,7 @@
 //! A caller with the model beside it: every call is compared and every report judged.
 
 use crate::caller::Caller;
-use crate::lengths::{Lengths, HELD, LEAST, NAMES, SIX, WIDTHS, WORK};
+use crate::lengths::{Lengths, EACH, HELD, LEAST, NAMES, SIX, WIDTHS, WORK};
 use crate::mirror::{told, Decoded, Mirror};
 use crate::report;
 use judge::judge::{ensure, verdict, Judged};
@@ -14,7 +14,7 @@ pub struct Session {
     mirror: Mirror,
 }
 
-/// Draws the lengths of a call that needs so many elements in the six lists.
+/// Draws the lengths of a call that needs the six lists for so many qubits.
 pub type Draw = fn(&mut Random, usize) -> Lengths;
 
 impl Session {
@@ -63,14 +63,14 @@ impl Session {
         Ok(reply)
     }
 
-    /// The first n elements are the model's, those after them as they were, and the report stands.
+    /// The n qubits' elements are the model's, those after them as they were, and the report stands.
     fn decoded(&self, reply: &Reply, (decode, expected): &Decoded) -> Judged {
         self.kept(WORK, LEAST[WORK])?;
         let reports = self.caller.reports(reply).expect("a decode's reply");
         for (which, half) in decode.halves().iter().enumerate() {
             for (list, expected) in (SIX + 3 * which..).zip(report::lists(&expected[which])) {
                 same(list, 0, &expected, &self.caller.after(list)[..expected.len()])?;
-                self.kept(list, half.n)?;
+                self.kept(list, EACH[list - SIX] * half.n)?;
             }
             let verdict = verdict(half);
             verdict.judge(half, decode.asked, &reports[which].said())?;

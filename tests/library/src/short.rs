@@ -66,9 +66,11 @@ fn each_short(session: &mut Session, random: &mut Random, code: &Code) -> Judged
         let shot = shot(random, code, kinds);
         let records = [records::load(code), shot.clone()].concat();
         for at in places(&records, kinds) {
-            for list in 0..NAMES.len() {
+            for (list, name) in NAMES.iter().enumerate() {
                 let least = Lengths::least(code.n).0[list];
-                for length in [least - 1, 0, random.below(least)] {
+                let words = name.ends_with("forms").then_some(code.n);
+                let lengths = [least - 1, 0, random.below(least)].into_iter().chain(words);
+                for length in lengths {
                     watch::case();
                     let lengths = Lengths::least(code.n).with(list, length);
                     short_at(session, &records, at, list, &lengths)?;
@@ -88,7 +90,7 @@ fn shot(random: &mut Random, code: &Code, kinds: &[u8]) -> Vec<Record> {
         alike(kind).iter().for_each(|&other| shot.set_mut(other).remove(&zero));
         shot.set_mut(kind).insert(0);
     }
-    let asked = losses::asked(random, shot.set(2).count());
+    let asked = losses::asked(random, code, &shot);
     [records::shot(&shot), vec![records::decode(asked)]].concat()
 }
 

@@ -7,14 +7,13 @@ use rack::raw::{answer, phase, Reply};
 use rack::Refusal;
 use std::fmt::{self, Display, Formatter};
 
-const REFUSALS: usize = Refusal::ALL.len();
-
 #[derive(Default)]
 pub struct Tally {
     calls: usize,
     decodes: usize,
     words: [usize; Word::ALL.len()],
-    refusals: [usize; REFUSALS],
+    /// In the order of `Refusal::ALL`.
+    refusals: [usize; Refusal::ALL.len()],
 }
 
 impl Tally {
@@ -29,15 +28,16 @@ impl Tally {
                     self.words[usize::from(half.word) - 1] += 1;
                 }
             }
-            answer::REFUSED => self.refusals[usize::from(reply.refusal) - 1] += 1,
+            answer::REFUSED => self.refusals[place(reply.refusal).expect("allowed")] += 1,
             _ => {}
         }
         Ok(())
     }
 
     /// Fails if many calls did not meet every word and the refusals up to a number.
-    pub fn all(&self, last: usize) -> Checked {
-        let met = self.words.iter().chain(&self.refusals[..last]).all(|&count| count > 0);
+    pub fn all(&self, last: u16) -> Checked {
+        let upto = Refusal::ALL.iter().filter(|why| why.number() <= last).count();
+        let met = self.words.iter().chain(&self.refusals[..upto]).all(|&count| count > 0);
         ensure(met || !self.enough(), || format!("not all was met: {self}"))?;
         Ok(self.to_string())
     }
@@ -60,18 +60,23 @@ impl Tally {
     }
 }
 
+/// Where a refusal's number is in `Refusal::ALL`.
+fn place(number: u16) -> Option<usize> {
+    Refusal::ALL.iter().position(|why| why.number() == number)
+}
+
 /// Whether answer, refusal, words and the state's parts have values of the header.
 fn allowed(reply: &Reply) -> bool {
     let decoded = reply.answer == answer::DECODED;
     let refused = reply.answer == answer::REFUSED;
-    let refusal = if refused { 1..=REFUSALS } else { 0..=0 };
+    let refusal = if refused { place(reply.refusal).is_some() } else { reply.refusal == 0 };
     let word = if decoded { 1..=Word::ALL.len() } else { 0..=0 };
     let halves = [reply.x, reply.z]
         .iter()
         .all(|half| word.contains(&half.word.into()) && (decoded || *half == Default::default()));
     let state = reply.state;
     let flags = [state.clash, state.spoiled, state.stale].iter().all(|&flag| flag <= 1);
-    let answered = reply.answer <= answer::REFUSED && refusal.contains(&reply.refusal.into());
+    let answered = reply.answer <= answer::REFUSED && refusal;
     answered && halves && flags && state.phase <= phase::READY
 }
 
@@ -81,8 +86,8 @@ impl Display for Tally {
         for (word, count) in Word::ALL.iter().zip(self.words) {
             write!(to, ", {} {count}", word.name())?;
         }
-        for (number, count) in (1..).zip(self.refusals).filter(|(_, count)| *count > 0) {
-            write!(to, ", refused {number} {count}")?;
+        for (why, count) in Refusal::ALL.iter().zip(self.refusals).filter(|(_, count)| *count > 0) {
+            write!(to, ", refused {} {count}", why.number())?;
         }
         Ok(())
     }
