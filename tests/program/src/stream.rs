@@ -67,7 +67,8 @@ fn load(records: &mut Vec<Record>) {
 fn shot(records: &mut Vec<Record>, random: &mut Random, n: usize, rows: usize) {
     let chance = [3, 30, 97][random.below(3)];
     let mut named = None;
-    for qubit in (0..n).filter(|_| random.percent(chance)).collect::<Vec<_>>() {
+    let lost: Vec<usize> = (0..n).filter(|_| random.percent(chance)).collect();
+    for &qubit in &lost {
         records.push(record(LOST, &[qubit], &[]));
         if rows > 0 && random.percent(95) {
             let row = qubit % rows;
@@ -77,13 +78,13 @@ fn shot(records: &mut Vec<Record>, random: &mut Random, n: usize, rows: usize) {
             named = Some((unread, row));
         }
     }
-    match (random.below(24), named) {
-        (0, _) => spoiled(records, record(LOST, &[n], &["refused 8 2\n"])),
-        (1, _) => spoiled(records, record(UNREAD_Z, &[rows], &["refused 8 6\n"])),
-        (2, Some((kind, row))) => {
+    match (random.below(24), named, lost.first()) {
+        (0, ..) => spoiled(records, record(LOST, &[n], &["refused 8 2\n"])),
+        (1, ..) => spoiled(records, record(UNREAD_Z, &[rows], &["refused 8 6\n"])),
+        (2, Some((kind, row)), _) => {
             spoiled(records, record(kind, &[row], &[&format!("refused 9 {kind}\n")]))
         }
-        (3 | 4, _) => records.push(decode(64, &["refused 10 5\n"])),
+        (3 | 4, _, Some(&qubit)) => spoiled(records, record(LOST, &[qubit], &["refused 9 2\n"])),
         _ => records.push(decode(63, &["X ", "Z "])),
     }
 }
