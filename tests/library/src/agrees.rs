@@ -13,6 +13,20 @@ pub fn agrees(seed: u64, shots: usize) -> Checked {
     session.caller.tally.all(11)
 }
 
+/// Shots whose guesses are in every word of a form, without refusals, which would spoil most of them.
+pub fn words(seed: u64, shots: usize) -> Checked {
+    let mut random = Random::new(seed);
+    let mut session = Session::new(random.word(), 1);
+    let mix = Mix { trouble: 0, wild: false, family: Some(Family::Late) };
+    for _ in 0..8 {
+        let stream = records(&mut random, shots.div_ceil(8), mix);
+        watch::case();
+        session.restart();
+        session.calls(&stream, Lengths::above)?;
+    }
+    session.caller.tally.live_in_every_word()
+}
+
 /// Lists some times their least length: what is past it stays.
 pub fn longer(seed: u64, shots: usize) -> Checked {
     let session = run(seed, shots, TIMES, Lengths::longer)?;

@@ -10,12 +10,13 @@ use std::process::{Command, Output};
 type Check = fn(u64, usize) -> Checked;
 
 /// Each check with its share of the shots, in percent.
-pub const ALL: [(&str, Check, usize); 12] = [
+pub const ALL: [(&str, Check, usize); 13] = [
     ("numbers", numbers::numbers, 100),
     ("makers", makers::makers, 100),
     ("owned", owned::owned, 100),
     ("bench", bench::bench, 100),
     ("agrees", agrees::agrees, 150),
+    ("words", agrees::words, 10),
     ("large", large::large, 100),
     ("longer", agrees::longer, 30),
     ("one-short", short::one_short, 100),

@@ -12,6 +12,8 @@ pub struct Tally {
     calls: usize,
     decodes: usize,
     words: [usize; Word::ALL.len()],
+    /// The most live guesses that a half was reported with.
+    live: u16,
     /// In the order of `Refusal::ALL`.
     refusals: [usize; Refusal::ALL.len()],
 }
@@ -26,6 +28,7 @@ impl Tally {
                 self.decodes += 1;
                 for half in [reply.x, reply.z] {
                     self.words[usize::from(half.word) - 1] += 1;
+                    self.live = self.live.max(half.live);
                 }
             }
             answer::REFUSED => self.refusals[place(reply.refusal).expect("allowed")] += 1,
@@ -42,6 +45,12 @@ impl Tally {
         Ok(self.to_string())
     }
 
+    /// Fails if many calls did not meet live guesses in every word of a form.
+    pub fn live_in_every_word(&self) -> Checked {
+        ensure(self.live >= 192 || !self.enough(), || format!("few live guesses: {self}"))?;
+        Ok(self.to_string())
+    }
+
     /// Whether so many calls should meet everything.
     pub fn enough(&self) -> bool {
         self.calls >= 20_000
@@ -54,6 +63,7 @@ impl Tally {
         };
         self.calls += other.calls;
         self.decodes += other.decodes;
+        self.live = self.live.max(other.live);
         add(&mut self.words, &other.words);
         add(&mut self.refusals, &other.refusals);
         self
@@ -86,6 +96,7 @@ impl Display for Tally {
         for (word, count) in Word::ALL.iter().zip(self.words) {
             write!(to, ", {} {count}", word.name())?;
         }
+        write!(to, ", up to {} live guesses", self.live)?;
         for (why, count) in Refusal::ALL.iter().zip(self.refusals).filter(|(_, count)| *count > 0) {
             write!(to, ", refused {} {count}", why.number())?;
         }
