@@ -97,6 +97,7 @@ const ENDS: [usize; 4] = [63, 127, 191, 255];
 fn brink(random: &mut Random, code: &Code, shot: &Shot) -> Option<Bits> {
     let order = random.order(code.n);
     let first = |count: usize| set(code.n, &order[..count]);
+    // Of a code with rows of one kind the half that has them.
     let which = match [code.z.is_empty(), code.x.is_empty()] {
         [true, false] => 1,
         [false, true] => 0,

@@ -25,8 +25,7 @@ pub struct Course {
     pub replaced: Replaced,
 }
 
-/// How often a guess was replaced, by the word of its bit, and how often another moved from the lowest bit of a word to the highest of the one
-/// before, by the latter.
+/// How often a guess was replaced, by the word that it was in, and how often another then moved down across the border of two words, by the lower one.
 #[derive(Clone, Copy, Default)]
 pub struct Replaced {
     pub words: [usize; 4],

@@ -55,6 +55,13 @@ fn elimination_alone_catches_unread_rows() {
 }
 
 #[test]
+fn elimination_alone_catches_lost_bits() {
+    let broken =
+        ["lost-at-border-64", "lost-at-border-128", "lost-at-border-192", "forms-of-255-bits"];
+    broken.iter().for_each(|name| eliminated(name, "300"));
+}
+
+#[test]
 fn a_failure_prints_a_stream() {
     let wrong = ["program", JUDGE, "--seed", "1", "--", "shots", "--wrong", "certain-if-fits"];
     let (success, printed) = judge(&wrong);
