@@ -5,9 +5,8 @@ use mathlib.Core.Option.{none, some}
 use mathlib.Core.List.{List}
 use Prim.Native.Nat.{ℕ, _≤_}
 use native.Mathlib.Omega.{arith}
-use lib.Dec.{ltb}
 use lib.ListN.{length}
-use borrow.Author.Tests.{ltb-false, not-false}
+use borrow.Author.Tests.{not-false}
 use Rattle.binary.proofs.Bits.{bit, never}
 use Rattle.machine.specs.Report.{Shown, outcome}
 use Rattle.machine.specs.Lists.{Shows}

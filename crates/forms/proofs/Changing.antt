@@ -15,12 +15,11 @@ use lib.Seq.{getD-set-same, getD-set-other}
 use Rattle.binary.specs.Bits.{_⊕_}
 use Rattle.binary.specs.Meaning.{Check}
 use Rattle.binary.specs.Words.{bit}
-use Rattle.binary.proofs.Bits.{bit as cases, ⊕-false, ⊕-assoc, &&-false}
+use Rattle.binary.proofs.Bits.{bit as cases, ⊕-false, &&-false}
 use Rattle.binary.proofs.WordBits.{order, bit-xor, bit-shr}
 use Rattle.machine.specs.Machine.{Form, replace}
 use Rattle.forms.specs.Words.{Words, wordsIn, sideIn}
 use Rattle.forms.specs.Changes.{Changed, adding, addingBelow, replacing, movingDown, movedTo}
-use Rattle.forms.specs.Sides.{IsSideWord}
 use Rattle.forms.proofs.WordBits.{replaced-low, carried}
 use Rattle.forms.proofs.FormWords.{words-in, words-out, words-same, side-same}
 

@@ -1,5 +1,5 @@
 -- The words of forms and of sides, and the forms that they make. Assumes nothing.
-use mathlib.Core.Path.{_≡_, refl, sym, ap, ap₂, _∙_, fun-ext}
+use mathlib.Core.Path.{_≡_, sym, ap, ap₂, _∙_, fun-ext}
 use mathlib.Core.Bool.{Bool, true, false, cond, _&&_}
 use mathlib.Core.Logic.{⊎-elim}
 use mathlib.Core.List.{List}
@@ -17,8 +17,8 @@ use Rattle.binary.specs.Words.{bit}
 use Rattle.binary.proofs.Bits.{bit as cases, ⊕-false, ⊕-assoc, &&-false, never, eqb-eq, eqb-differ}
 use Rattle.binary.proofs.Rows.{odd-none}
 use Rattle.binary.proofs.WordBits.{order, bit-xor, bit-zero, bit-one, bit-past, same-digit}
-use Rattle.machine.specs.Machine.{Form, side}
-use Rattle.machine.specs.Lists.{formOf, formsOf}
+use Rattle.machine.specs.Machine.{side}
+use Rattle.machine.specs.Lists.{formOf}
 use Rattle.machine.proofs.FormWords.{form-in, form-out}
 use Rattle.forms.specs.Words.{Words, joined, wordsIn, sideIn}
 use Rattle.forms.specs.Forms.{withLive}

@@ -11,14 +11,14 @@ use borrow.Author.Tests.{lt-ltb, eq-eqb, ne-eqb}
 use lib.Dec.{eqb, ltb}
 use lib.ListN.{length, getD, set, length-set}
 use lib.Seq.{getD-set-same, getD-set-other}
-use Rattle.binary.specs.Meaning.{Row, Check}
+use Rattle.binary.specs.Meaning.{Row}
 use Rattle.binary.specs.Words.{bit}
-use Rattle.binary.proofs.Bits.{bit as cases, eqb-sym, eqb-eq}
+use Rattle.binary.proofs.Bits.{eqb-sym}
 use Rattle.binary.proofs.WordBits.{order, bit-zero, bit-pow, one-shl, same-digit}
 use Rattle.machine.specs.Machine.{Form, put}
-use Rattle.machine.specs.Lists.{formOf, formsOf}
+use Rattle.machine.specs.Lists.{formsOf}
 use Rattle.lists.specs.Cleared.{Cleared}
-use Rattle.forms.specs.Forms.{Topped, PutsSide, PutsGuess}
+use Rattle.forms.specs.Forms.{PutsSide, PutsGuess}
 use Rattle.forms.specs.Words.{Words, joined, wordsIn, sideIn}
 use Rattle.forms.specs.Sides.{check, Reaches}
 use Rattle.forms.proofs.FormWords.{words-in, words-out, words-same, Wide, form-joined, side-joined, side-same}

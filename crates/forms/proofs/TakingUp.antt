@@ -1,13 +1,13 @@
 -- A row taken up in the list of forms is taken up by the machine. Assumes nothing.
-use mathlib.Core.Path.{_≡_, refl, sym, ap, _∙_, fun-ext, subst}
+use mathlib.Core.Path.{_≡_, refl, sym, ap, _∙_, fun-ext}
 use mathlib.Core.Bool.{Bool, true, false, _&&_}
 use mathlib.Core.Logic.{⊎-elim}
 use mathlib.Core.List.{List}
 use Prim.Native.Nat.{ℕ, zero, suc, _+_, _-_, _*_, _/_, _%_, _^_, _≤_, _<_}
 use native.Mathlib.Omega.{arith}
 use borrow.Author.Tests.{lt-ltb, le-ltb, eq-eqb, ne-eqb, eqb-true}
-use lib.Dec.{eqb, ltb, eqb·suc-zero}
-use lib.ListN.{length, getD}
+use lib.Dec.{eqb, eqb·suc-zero}
+use lib.ListN.{length}
 use Rattle.binary.specs.Bits.{_⊕_}
 use Rattle.binary.specs.Meaning.{Row, Check}
 use Rattle.binary.specs.Words.{bit}
@@ -15,7 +15,7 @@ use Rattle.binary.proofs.Bits.{&&-false, never, and-out, and-in}
 use Rattle.binary.proofs.WordBits.{order, bit-zero, bit-one, bit-past}
 use Rattle.forms.specs.declared.Taken.the-variants.{Failed, Live}
 use Rattle.machine.specs.Machine.{Form, side, newest, without, replace, takeAt, takeUp, oneLess}
-use Rattle.machine.specs.Lists.{formOf, formsOf}
+use Rattle.machine.specs.Lists.{formsOf}
 use Rattle.machine.proofs.Settling.{side-top}
 use Rattle.machine.proofs.TakingUp.{newest-is, without-below, without-above}
 use Rattle.forms.specs.Forms.{withLive, Topped, TakenAs, TakesUp}

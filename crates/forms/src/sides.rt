@@ -62,12 +62,18 @@ pub fn highest_part(n: usize, row: &[u16], lit: bool, top: usize, forms: &[u64])
     while 0 < v {
         let word = side_word(n, row, lit, v, forms);
         if word != 0 {
-            return Part { number: v, word: word };
+            return Part {
+                number: v,
+                word: word,
+            };
         }
         v -= 1;
     }
     let word = side_word(n, row, lit, 0, forms);
-    Part { number: 0, word: word }
+    Part {
+        number: 0,
+        word: word,
+    }
 }
 
 // The newest guess in a word that has one: its highest bit.

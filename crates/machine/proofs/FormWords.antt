@@ -1,9 +1,9 @@
 -- The words of a form and its bits. Assumes nothing.
 use mathlib.Core.Path.{_≡_, sym, ap, ap₂, _∙_}
-use mathlib.Core.Bool.{false, _&&_}
+use mathlib.Core.Bool.{false}
 use mathlib.Core.Logic.{⊎-elim}
 use mathlib.Core.List.{List}
-use Prim.Native.Nat.{ℕ, _+_, _*_, _/_, _%_, _^_, _≤_, _<_}
+use Prim.Native.Nat.{ℕ, _+_, _*_, _/_, _%_, _≤_, _<_}
 use native.Mathlib.Omega.{arith}
 use lib.Dec.{leb}
 use lib.ListN.{getD}
@@ -12,7 +12,7 @@ use Rattle.binary.specs.Words.{bit}
 use Rattle.binary.proofs.Bits.{iff-eq}
 use Rattle.binary.proofs.WordBits.{order, bit-past, bits-none}
 use Rattle.machine.specs.Report.{Shown, outcome}
-use Rattle.machine.specs.Lists.{formOf, HalfLists, Shows}
+use Rattle.machine.specs.Lists.{formOf}
 use Rattle.machine.specs.Demands.{ReachLaw}
 use Rattle.machine.specs.OneWord.{OneWordLaw}
 use Rattle.machine.proofs.Demands.{reach}

@@ -1,17 +1,18 @@
--- The refusal given has the lowest number among those whose tests pass. Assumes nothing.
-use mathlib.Core.Path.{_≡_, refl, sym, ap, _∙_}
+-- The refusal given has the lowest number among those whose tests pass; none hangs on the budget. Assumes nothing.
+use mathlib.Core.Path.{_≡_, refl, sym, ap}
 use mathlib.Core.Bool.{Bool, true, false, cond}
 use mathlib.Core.Option.{Option, none, some}
-use mathlib.Core.List.{List, [], _∷_, List·Memᴰ, List·Memᴰ·head, List·Memᴰ·tail, List·Memᴰ·cases-cons, List·Memᴰ·not-nil}
+use mathlib.Core.List.{List, [], _∷_, List·Memᴰ·head, List·Memᴰ·tail, List·Memᴰ·cases-cons, List·Memᴰ·not-nil}
 use mathlib.Core.Logic.{⊎-elim}
 use Prim.Native.Nat.{ℕ, _≤_}
 use native.Mathlib.Nat.{le-refl, le-trans}
 use native.Mathlib.Omega.{arith}
-use Rattle.binary.proofs.Bits.{bit, never}
+use Rattle.binary.proofs.Bits.{never}
 use Rattle.records.specs.declared.Refusal.{Refusal}
+use Rattle.records.specs.declared.Refusal.the-variants.{Unknown, Length, Size, Place, Clash, Codeless, Range, Twice, Spoiled, Short}
 use Rattle.records.specs.Records.{Record, unknown, wrong, size, row, add, report}
 use Rattle.records.specs.History.{History}
-use Rattle.records.specs.Table.{refusalNumber, tests, lowest, refusal, Applies, LowestNumber, Numbered, NumberedLaw}
+use Rattle.records.specs.Table.{refusalNumber, tests, lowest, refusal, Applies, LowestNumber, Numbered, NumberedLaw, AnyBudget}
 
 -- The numbers ascend, from a number on.
 abbrev From : ℕ → List (Refusal × Bool) → Type 0
@@ -59,3 +60,20 @@ ascending short six (report budget limit) a = (omega arith, (omega arith, (omega
 pub lowest-numbered : NumberedLaw
 unfolding NumberedLaw refusal
 lowest-numbered short six r a = numbered 0 (tests short six r a) (ascending short six r a)
+
+pub any-budget : AnyBudget
+unfolding refusal
+any-budget = record { unused = unused; same = λ short six budget budget′ limit a. refl }
+  where
+    unused : (n : Refusal) → refusalNumber n ≡ 10 → ⊥
+    unused Unknown e = omega arith
+    unused Length e = omega arith
+    unused Size e = omega arith
+    unused Place e = omega arith
+    unused Refusal.Row e = omega arith
+    unused Clash e = omega arith
+    unused Codeless e = omega arith
+    unused Range e = omega arith
+    unused Twice e = omega arith
+    unused Spoiled e = omega arith
+    unused Short e = omega arith

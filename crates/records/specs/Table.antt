@@ -3,8 +3,10 @@
 --   tests          the table's column "When", for each kind of record
 --   refusal        the lowest number that applies
 --   Numbered       the same by the numbers: the refusal's test passes, and no refusal of a lower number has one that does
+--   AnyBudget      no refusal hangs on the budget
 --   leaves         the table's column "After it"
 --   takes          what a record that is carried out makes of code and shot
+use mathlib.Core.Path.{_≡_}
 use mathlib.Core.Bool.{Bool, true, false, not, _&&_, _||_, cond}
 use mathlib.Core.Option.{Option, none, some}
 use mathlib.Core.List.{List, [], _∷_, List·Memᴰ}
@@ -18,7 +20,7 @@ use Rattle.records.specs.declared.Refusal.the-variants.{Unknown, Length,
 use Rattle.records.specs.Records.{Pauli, X, Z, Record, unknown, wrong, size, row, add, report}
 use Rattle.records.specs.History.{Code, Shot, History, empty, loading, ready, sizesOf, domainOf, sizeOf, already, onShot, joined, spoil, endShot, loaded, addRow}
 
--- 10 is not used: any budget is accepted (document 02, request e).
+-- 10 is not used.
 abbrev pub refusalNumber : Refusal → ℕ
 refusalNumber Unknown = 1
 refusalNumber Length = 2
@@ -106,6 +108,12 @@ Numbered ts none = (m : Refusal) → Applies ts m → ⊥
 
 unfoldable pub NumberedLaw : Type 0
 NumberedLaw = (short : Bool) (six : ℕ → Bool) (r : Record) (a : History) → Numbered (tests short six r a) (refusal short six r a)
+
+-- Any budget is accepted (document 02, request e): no refusal has number 10, and whether and which one is given does not hang on the budget.
+pub record AnyBudget : Type 0 where
+  pub unused : (n : Refusal) → refusalNumber n ≡ 10 → ⊥
+  pub same : (short : Bool) (six : ℕ → Bool) (budget budget′ limit : ℕ) (a : History)
+      → refusal short six (report budget limit) a ≡ refusal short six (report budget′ limit) a
 
 ----------------------------------------------------------------------
 -- After it

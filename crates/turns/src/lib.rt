@@ -31,14 +31,7 @@ struct Ended {
 }
 
 // Whether the sizes are document 01's and the lists long enough.
-fn fits(
-    n: u16,
-    lit: &[u8],
-    rows: Rows,
-    work: &[u64],
-    marks: &[u8],
-    forms: &[u64],
-) -> bool
+fn fits(n: u16, lit: &[u8], rows: Rows, work: &[u64], marks: &[u8], forms: &[u64]) -> bool
     ensures { λ r. ⌜ r ≡ fits? n (length (now (lit .entry))) (rows .first .0) (rows .count) (length (now (work .entry))) (length (now (marks .entry))) (length (now (forms .entry))) ⌝ }
 {
     let size = n as usize;

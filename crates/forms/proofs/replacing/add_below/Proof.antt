@@ -33,9 +33,11 @@ loop-less c = search needs
 
 loop-again : tie.Need-loop-again Inv-loop μ-loop
 loop-again c =
-    let l = c .before .before .before .before .before .before .before .loop in
-    (omega arith, below-turn _ _ _ _ _ _ _ _ _ (c .before .before .before .before .before .before .loop-test .taken) (l .inv .1)
-    (λ j. c .before .before .before .before .side-word .ensures .bits j ∙ side-kept _ _ _ _ _ _ _ _ (l .inv .1) j) (c .before .before .add-side .ensures))
+    let l = c .before .before .before .before .before .before .before .loop in (
+      omega arith,
+      below-turn _ _ _ _ _ _ _ _ _ (c .before .before .before .before .before .before .loop-test .taken) (l .inv .1)
+          (λ j. c .before .before .before .before .side-word .ensures .bits j ∙ side-kept _ _ _ _ _ _ _ _ (l .inv .1) j) (c .before .before .add-side .ensures),
+    )
 
 same-length : tie.Need-same-length Inv-loop μ-loop
 same-length c = search needs

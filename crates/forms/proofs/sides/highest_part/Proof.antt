@@ -35,9 +35,11 @@ loop-less c = search needs
 
 loop-again : tie.Need-loop-again Inv-loop μ-loop
 loop-again c =
-    let l = c .before .before .before .loop in
-    (omega arith, λ u a b j. ⊎-elim (λ (h : l .v < u). l .inv .1 u h b j)
-    (λ (h : u ≤ l .v). let e : u ≡ l .v = omega arith in rw e (side-zero _ _ _ _ _ (c .before .side-word .ensures) (c .if1 .left) j)) (order (l .v) u))
+    let l = c .before .before .before .loop in (
+      omega arith,
+      λ u a b j. ⊎-elim (λ (h : l .v < u). l .inv .1 u h b j)
+          (λ (h : u ≤ l .v). let e : u ≡ l .v = omega arith in rw e (side-zero _ _ _ _ _ (c .before .side-word .ensures) (c .if1 .left) j)) (order (l .v) u),
+    )
 
 side-word-requires-2 : tie.Need-side-word-requires-2 Inv-loop μ-loop
 side-word-requires-2 c κs = search needs
