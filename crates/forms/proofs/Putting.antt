@@ -11,24 +11,19 @@ use borrow.Author.Tests.{lt-ltb, eq-eqb, ne-eqb}
 use lib.Dec.{eqb, ltb}
 use lib.ListN.{length, getD, set, length-set}
 use lib.Seq.{getD-set-same, getD-set-other}
-use Rattle.binary.specs.Meaning.{Row}
+use Rattle.binary.specs.Meaning.{Row, Check}
 use Rattle.binary.specs.Words.{bit}
 use Rattle.binary.proofs.Bits.{eqb-sym}
 use Rattle.binary.proofs.WordBits.{order, bit-zero, bit-pow, one-shl, same-digit}
-use Rattle.machine.specs.Machine.{Form, put}
+use Rattle.machine.specs.Machine.{Form, put, side}
 use Rattle.machine.specs.Lists.{formsOf}
 use Rattle.lists.specs.Cleared.{Cleared}
-use Rattle.forms.specs.Forms.{PutsSide, PutsGuess}
-use Rattle.forms.specs.Words.{Words, joined, wordsIn, sideIn}
-use Rattle.forms.specs.Sides.{check, Reaches}
-use Rattle.forms.proofs.FormWords.{words-in, words-out, words-same, Wide, form-joined, side-joined, side-same}
-use Rattle.forms.proofs.TakingUp.{top-words, side-past}
-
--- The first u words of qubit p's form are these; every other element stays.
-pub record WordsPut (p u : ℕ) (s : Words) (old new : List ℕ) : Type 0 where
-  pub put : (t : ℕ) → t < u → (j : ℕ) → bit (getD new (4 * p + t) 0) j ≡ s t j
-  pub beside : (i : ℕ) → (i < 4 * p) ⊎ (4 * p + u ≤ i) → getD new i 0 ≡ getD old i 0
-  pub long : length new ≡ length old
+use Rattle.forms.specs.Forms.{withLive, Topped, PutsSide, PutsGuess}
+use Rattle.forms.specs.Changes.{WordsPut}
+use Rattle.forms.specs.Words.{Words, joined, wordsIn, sideIn, oneBit}
+use Rattle.forms.specs.Sides.{check, topWord}
+use Rattle.forms.proofs.FormWords.{words-in, words-out, words-same, form-joined, side-joined, side-same}
+use Rattle.forms.proofs.TakingUp.{top-reaches, top-low, side-low}
 
 pub put-start : (p : ℕ) (s : Words) (forms : List ℕ) → WordsPut p 0 s forms forms
 put-start p s forms = record { put = λ t l. absurd (not-suc-le-zero l); beside = λ i h. refl; long = refl }
@@ -45,10 +40,6 @@ put-turn p u s old new x so inside is =
       long = length-set new (4 * p + u) x ∙ so .long;
     }
 
--- What is past 4 × n stays.
-pub put-rest : (n p u : ℕ) (s : Words) (old new : List ℕ) → p < n → u ≤ 4 → WordsPut p u s old new → (i : ℕ) → 4 * n ≤ i → getD new i 0 ≡ getD old i 0
-put-rest n p u s old new h l so i m = so .beside i (inr (omega arith))
-
 -- A word that is not written yet is the same in every form.
 pub word-kept : (p u : ℕ) (s : Words) (old new : List ℕ) → u < 4 → WordsPut p u s old new → (q j : ℕ) → wordsIn new q u j ≡ wordsIn old q u j
 word-kept p u s old new l so q j =
@@ -59,17 +50,17 @@ word-kept p u s old new l so q j =
     by (inr h) = inr (omega arith)
 
 -- The form that the words make is put, where neither it nor the old one has a word past those written.
-pub forms-put : (n p u : ℕ) (s : Words) (old new : List ℕ) → p < n → u ≤ 4 → WordsPut p u s old new → ((t j : ℕ) → u ≤ t → s t j ≡ false)
-    → ((t j : ℕ) → u ≤ t → wordsIn old p t j ≡ false) → formsOf n new ≡ put p (joined s) (formsOf n old)
+pub forms-put : (n p u : ℕ) (s : Words) (old new : List ℕ) → p < n → u ≤ 4 → WordsPut p u s old new → ((t j : ℕ) → u ≤ t → j < 64 → s t j ≡ false)
+    → ((t j : ℕ) → u ≤ t → j < 64 → wordsIn old p t j ≡ false) → formsOf n new ≡ put p (joined s) (formsOf n old)
 forms-put n p u s old new h l so s-top old-top = fun-ext λ q. fun-ext λ k. by q k (ℕ-discrete p q)
   where
-    here : (t j : ℕ) → wordsIn new p t j ≡ s t j
-    here t j =
+    here : (t j : ℕ) → j < 64 → wordsIn new p t j ≡ s t j
+    here t j low =
         ⊎-elim (λ (a : t < u). words-in new p t j (omega arith) ∙ so .put t a j)
         (λ (a : u ≤ t). ⊎-elim
-        (λ (b : t < 4). words-in new p t j b ∙ ap (λ (y : ℕ). bit y j) (so .beside (4 * p + t) (inr (omega arith))) ∙ sym (words-in old p t j b) ∙ old-top t j a)
+        (λ (b : t < 4). words-in new p t j b ∙ ap (λ (y : ℕ). bit y j) (so .beside (4 * p + t) (inr (omega arith))) ∙ sym (words-in old p t j b) ∙ old-top t j a low)
         (λ (b : 4 ≤ t). words-out new p t j b) (order t 4)
-        ∙ sym (s-top t j a)) (order t u)
+        ∙ sym (s-top t j a low)) (order t u)
 
     other : (q : ℕ) → (p ≡ q → ⊥) → wordsIn new q ≡ wordsIn old q
     other q f = words-same new old q (λ v m. so .beside (4 * q + v) (apart (order q p) v m))
@@ -79,9 +70,13 @@ forms-put n p u s old new h l so s-top old-top = fun-ext λ q. fun-ext λ k. by 
         apart (inr a) v m = ⊎-elim (λ (b : p < q). inr (omega arith)) (λ (b : q ≤ p). absurd (f (omega arith))) (order p q)
 
     by : (q k : ℕ) → Dec (p ≡ q) → formsOf n new q k ≡ put p (joined s) (formsOf n old) q k
-    by q k (yes e) = rw (← e, eq-eqb p p refl, lt-ltb p n h) (form-joined new p k ∙ here (k / 64) (k % 64))
+    by q k (yes e) = rw (← e, eq-eqb p p refl, lt-ltb p n h) (form-joined new p k ∙ here (k / 64) (k % 64) (omega arith))
     by q k (no f) =
         rw (ne-eqb p q f) (ap (ltb q n &&_) (form-joined new q k ∙ ap (λ (w : Words). w (k / 64) (k % 64)) (other q f) ∙ sym (form-joined old q k)))
+
+-- What is past 4 × n stays.
+put-rest : (n p u : ℕ) (s : Words) (old new : List ℕ) → p < n → u ≤ 4 → WordsPut p u s old new → (i : ℕ) → 4 * n ≤ i → getD new i 0 ≡ getD old i 0
+put-rest n p u s old new h l so i m = so .beside i (inr (omega arith))
 
 ----------------------------------------------------------------------
 -- A side
@@ -94,29 +89,30 @@ module _ (n live p : ℕ) (row : Row) (lit : Bool) (old : List ℕ) where
   side-word-kept u new l so j = side-same n new old (check lit row) u j (λ q h. word-kept p u sideWords old new l so q j)
 
   pub puts-nothing : (p < n → 4 * n ≤ length old → ⊥) → PutsSide n (check lit row) live p old old
-  puts-nothing not = record { long = refl; rest = λ i h. refl; puts = λ a b. absurd (not a b) }
+  puts-nothing not = record { long = refl; put = λ a b. absurd (not a b); refused = λ f. refl }
 
-  pub puts-side : (top : ℕ) (new : List ℕ) → p < n → Reaches live top → Wide old → WordsPut p (top + 1) sideWords old new → PutsSide n (check lit row) live p old new
-  puts-side top new h reach wide so =
-      let four = reach .within in
-      record {
-        long = so .long;
-        rest = put-rest n p (top + 1) sideWords old new h (omega arith) so;
-        puts = λ a b topped.
-            forms-put n p (top + 1) sideWords old new h (omega arith) so (λ t j l. side-past n live top old reach wide topped (check lit row) t j (omega arith))
-            (λ t j l. top-words n live top old reach wide topped p h t j (omega arith))
-            ∙ ap (λ (f : Form). put p f (formsOf n old)) (sym (side-joined n live old (check lit row)));
-      }
+  pub puts-side : (top : ℕ) (new : List ℕ) → p < n → 4 * n ≤ length old → top ≡ topWord live → WordsPut p (top + 1) sideWords old new → PutsSide n (check lit row) live p old new
+  puts-side top new h room e so = record { long = so .long; put = λ a b. rw e at so; refused = λ f. absurd (f h room) }
+
+-- The side is the form then, of forms that have no bit above the live guesses.
+pub side-put : (n live p : ℕ) (c : Check) (old new : List ℕ) → PutsSide n c live p old new → p < n → 4 * n ≤ length old → Topped n live old
+    → formsOf n new ≡ put p (side (withLive n old live) c) (formsOf n old)
+side-put n live p c old new v h room topped =
+    let reach = top-reaches live (topWord live) refl in
+    let four = reach .within in
+    forms-put n p (topWord live + 1) (sideIn n old c) old new h (omega arith) (v .put h room) (λ t j l b. side-low n live (topWord live) old reach topped c t j (omega arith) b)
+    (λ t j l b. top-low n live (topWord live) old reach topped p h t j (omega arith) b)
+    ∙ ap (λ (f : Form). put p f (formsOf n old)) (sym (side-joined n live old c))
+
+pub side-rest : (n live p : ℕ) (c : Check) (old new : List ℕ) → PutsSide n c live p old new → p < n → 4 * n ≤ length old → (i : ℕ) → 4 * n ≤ i → getD new i 0 ≡ getD old i 0
+side-rest n live p c old new v h room =
+    let four = top-reaches live (topWord live) refl .within in put-rest n p (topWord live + 1) (sideIn n old c) old new h (omega arith) (v .put h room)
 
 ----------------------------------------------------------------------
 -- A guess
 
--- Bit g alone.
-abbrev unit : ℕ → Words
-unit g t j = eqb t (g / 64) && eqb j (g % 64)
-
-unit-joined : (g k : ℕ) → joined (unit g) k ≡ eqb k g
-unit-joined g k = by (ℕ-discrete (k / 64) (g / 64))
+one-joined : (g k : ℕ) → joined (oneBit g) k ≡ eqb k g
+one-joined g k = by (ℕ-discrete (k / 64) (g / 64))
   where
     by : Dec (k / 64 ≡ g / 64) → (eqb (k / 64) (g / 64) && eqb (k % 64) (g % 64)) ≡ eqb k g
     by (yes e) = rw (eq-eqb (k / 64) (g / 64) e) (same-digit k g (sym e))
@@ -124,10 +120,10 @@ unit-joined g k = by (ℕ-discrete (k / 64) (g / 64))
 
 module _ (n guess p : ℕ) (old : List ℕ) where
   pub guess-nothing : (p < n → 4 * n ≤ length old → guess < 256 → ⊥) → PutsGuess n guess p old old
-  guess-nothing not = record { long = refl; rest = λ i h. refl; puts = λ a b c. absurd (not a b c) }
+  guess-nothing not = record { long = refl; put = λ a b c. absurd (not a b c); refused = λ f. refl }
 
-  module _ (h : p < n) (few : guess < 256) (long : 4 * n ≤ length old) (wide : Wide old) (mid : List ℕ) (cleared : Cleared (4 * p) (4 * p + guess / 64) old mid) where
-    lower : WordsPut p (guess / 64) (unit guess) old mid
+  module _ (h : p < n) (few : guess < 256) (room : 4 * n ≤ length old) (mid : List ℕ) (cleared : Cleared (4 * p) (4 * p + guess / 64) old mid) where
+    lower : WordsPut p (guess / 64) (oneBit guess) old mid
     lower = record {
       put = λ t l j. ap (λ (y : ℕ). bit y j) (cleared .inside (4 * p + t) (omega arith) (omega arith)) ∙ bit-zero j ∙ sym (rw (ne-eqb t (guess / 64) (λ e. absurd (omega arith))));
       beside = λ i a. cleared .outside i a;
@@ -137,14 +133,21 @@ module _ (n guess p : ℕ) (old : List ℕ) where
     pub puts-guess : PutsGuess n guess p old (set mid (4 * p + guess / 64) (1 * 2 ^ (guess % 64) % 2 ^ 64))
     puts-guess =
         let e = cleared .long in
-        let so = put-turn p (guess / 64) (unit guess) old mid (1 * 2 ^ (guess % 64) % 2 ^ 64) lower (omega arith)
-        (λ j. ap (λ (y : ℕ). bit y j) (one-shl (guess % 64) (omega arith)) ∙ bit-pow (guess % 64) j ∙ eqb-sym (guess % 64) j
-        ∙ sym (rw (eq-eqb (guess / 64) (guess / 64) refl))) in
         record {
-          long = so .long;
-          rest = put-rest n p (guess / 64 + 1) (unit guess) old _ h (omega arith) so;
-          puts = λ a b c topped.
-              forms-put n p (guess / 64 + 1) (unit guess) old _ h (omega arith) so (λ t j l. rw (ne-eqb t (guess / 64) (λ z. absurd (omega arith))))
-              (λ t j l. top-words n guess (guess / 64) old (record { within = omega arith; covers = λ k x y. omega arith }) wide topped p h t j (omega arith))
-              ∙ ap (λ (f : Form). put p f (formsOf n old)) (fun-ext (unit-joined guess));
+          long = length-set mid (4 * p + guess / 64) (1 * 2 ^ (guess % 64) % 2 ^ 64) ∙ e;
+          put = λ a b c. put-turn p (guess / 64) (oneBit guess) old mid (1 * 2 ^ (guess % 64) % 2 ^ 64) lower (omega arith)
+              (λ j. ap (λ (y : ℕ). bit y j) (one-shl (guess % 64) (omega arith)) ∙ bit-pow (guess % 64) j ∙ eqb-sym (guess % 64) j
+              ∙ sym (rw (eq-eqb (guess / 64) (guess / 64) refl)));
+          refused = λ f. absurd (f h room few);
         }
+
+-- The guess is the form then, of forms that have no bit above it.
+pub guess-put : (n guess p : ℕ) (old new : List ℕ) → PutsGuess n guess p old new → p < n → 4 * n ≤ length old → guess < 256 → Topped n guess old
+    → formsOf n new ≡ put p (λ k. eqb k guess) (formsOf n old)
+guess-put n guess p old new v h room few topped =
+    forms-put n p (guess / 64 + 1) (oneBit guess) old new h (omega arith) (v .put h room few) (λ t j l b. rw (ne-eqb t (guess / 64) (λ z. absurd (omega arith))))
+    (λ t j l b. top-low n guess (guess / 64) old (record { within = omega arith; covers = λ k x y. omega arith }) topped p h t j (omega arith) b)
+    ∙ ap (λ (f : Form). put p f (formsOf n old)) (fun-ext (one-joined guess))
+
+pub guess-rest : (n guess p : ℕ) (old new : List ℕ) → PutsGuess n guess p old new → p < n → 4 * n ≤ length old → guess < 256 → (i : ℕ) → 4 * n ≤ i → getD new i 0 ≡ getD old i 0
+guess-rest n guess p old new v h room few = put-rest n p (guess / 64 + 1) (oneBit guess) old new h (omega arith) (v .put h room few)

@@ -21,7 +21,7 @@ use Rattle.machine.proofs.TakingUp.{newest-is, without-below, without-above}
 use Rattle.forms.specs.Forms.{withLive, Topped, TakenAs, TakesUp}
 use Rattle.forms.specs.Words.{Words, joined, wordsIn, sideIn}
 use Rattle.forms.specs.Changes.{Changed, addingBelow, replacing, movedTo}
-use Rattle.forms.specs.Sides.{check, Reaches, HighestPart, NewestBit}
+use Rattle.forms.specs.Sides.{check, topWord, HighestPart, NewestBit}
 use Rattle.forms.proofs.FormWords.{words-out, Wide, words-narrow, form-joined, joined-at, side-joined, side-none}
 use Rattle.forms.proofs.Joining.{joined-replaced}
 
@@ -31,24 +31,46 @@ use Rattle.forms.proofs.Joining.{joined-replaced}
 forms-in : (n : ℕ) (forms : List ℕ) (q k : ℕ) → q < n → formsOf n forms q k ≡ joined (wordsIn forms q) k
 forms-in n forms q k h = rw (lt-ltb q n h) (form-joined forms q k)
 
-module _ (n live top : ℕ) (forms : List ℕ) (reach : Reaches live top) (wide : Wide forms) (topped : Topped n live forms) where
+-- The highest word that the live guesses reach.
+pub record Reaches (live top : ℕ) : Type 0 where
+  pub within : top < 4
+  pub covers : (k : ℕ) → k < 256 → k ≤ live → k / 64 ≤ top
+
+pub top-reaches : (live top : ℕ) → top ≡ topWord live → Reaches live top
+unfolding topWord
+top-reaches live top e = ⊎-elim (λ (l : live < 192). low l (e ∙ rw (lt-ltb live 192 l))) (λ (l : 192 ≤ live). high (e ∙ rw (le-ltb live 192 l))) (order live 192)
+  where
+    low : live < 192 → top ≡ live / 64 → Reaches live top
+    low l d = record { within = omega arith; covers = λ k a b. omega arith }
+
+    high : top ≡ 3 → Reaches live top
+    high d = record { within = omega arith; covers = λ k a b. omega arith }
+
+module _ (n live top : ℕ) (forms : List ℕ) (reach : Reaches live top) (topped : Topped n live forms) where
   -- No form has a word above those that the live guesses reach.
-  pub top-words : (q : ℕ) → q < n → (t j : ℕ) → top < t → wordsIn forms q t j ≡ false
-  top-words q h t j l =
-      ⊎-elim (λ (a : t < 4). ⊎-elim (λ (b : j < 64). inside a b) (λ (b : 64 ≤ j). words-narrow forms wide q t j b) (order j 64))
-      (λ (a : 4 ≤ t). words-out forms q t j a) (order t 4)
+  pub top-low : (q : ℕ) → q < n → (t j : ℕ) → top < t → j < 64 → wordsIn forms q t j ≡ false
+  top-low q h t j l b = ⊎-elim (λ (a : t < 4). inside a) (λ (a : 4 ≤ t). words-out forms q t j a) (order t 4)
     where
-      inside : t < 4 → j < 64 → wordsIn forms q t j ≡ false
-      inside a b =
+      inside : t < 4 → wordsIn forms q t j ≡ false
+      inside a =
           ⊎-elim (λ (m : live < 64 * t + j). sym (joined-at (wordsIn forms q) t j b) ∙ sym (forms-in n forms q (64 * t + j) h) ∙ topped q (64 * t + j) m)
           (λ (m : 64 * t + j ≤ live). let c = reach .covers (64 * t + j) (omega arith) m in absurd (omega arith)) (order live (64 * t + j))
 
-  pub side-past : (c : Check) (t j : ℕ) → top < t → sideIn n forms c t j ≡ false
-  side-past c t j l = side-none n forms c t j (rw (ne-eqb t 0 (λ e. absurd (omega arith)))) (λ q h. top-words q h t j l)
+  pub side-low : (c : Check) (t j : ℕ) → top < t → j < 64 → sideIn n forms c t j ≡ false
+  side-low c t j l b = side-none n forms c t j (rw (ne-eqb t 0 (λ e. absurd (omega arith)))) (λ q h. top-low q h t j l b)
 
 pub side-narrow : (n : ℕ) (forms : List ℕ) → Wide forms → (c : Check) (t j : ℕ) → 64 ≤ j → sideIn n forms c t j ≡ false
 side-narrow n forms wide c t j l =
     side-none n forms c t j (rw (ne-eqb j 0 (λ e. absurd (omega arith))) (&&-false (eqb t 0))) (λ q h. words-narrow forms wide q t j l)
+
+module _ (n live top : ℕ) (forms : List ℕ) (reach : Reaches live top) (wide : Wide forms) (topped : Topped n live forms) where
+  top-words : (q : ℕ) → q < n → (t j : ℕ) → top < t → wordsIn forms q t j ≡ false
+  top-words q h t j l =
+      ⊎-elim (λ (b : j < 64). top-low n live top forms reach topped q h t j l b) (λ (b : 64 ≤ j). words-narrow forms wide q t j b) (order j 64)
+
+  side-past : (c : Check) (t j : ℕ) → top < t → sideIn n forms c t j ≡ false
+  side-past c t j l =
+      ⊎-elim (λ (b : j < 64). side-low n live top forms reach topped c t j l b) (λ (b : 64 ≤ j). side-narrow n forms wide c t j b) (order j 64)
 
 ----------------------------------------------------------------------
 -- A guess replaced in every form
@@ -180,11 +202,14 @@ module _ (n : ℕ) (row : Row) (lit : Bool) (live top v word : ℕ) (forms : Lis
 
 module _ (n : ℕ) (row : Row) (lit : Bool) (live : ℕ) (forms : List ℕ) where
   pub takes-none : length forms / 4 < n → TakesUp n (check lit row) live Failed forms forms
-  takes-none h = record { long = refl; rest = λ q i. refl; taken = λ l top. absurd (omega arith) }
+  takes-none h = record { long = refl; rest = λ q i. refl; taken = λ l top. absurd (omega arith); refused = λ l. (refl, refl) }
 
-  module _ (top v word : ℕ) (reach : Reaches live top) (wide : Wide forms) (high : HighestPart n forms (check lit row) top v word) where
+  module _ (top v word : ℕ) (is-top : top ≡ topWord live) (room : n ≤ length forms / 4) (wide : Wide forms) (high : HighestPart n forms (check lit row) top v word) where
+    reach : Reaches live top
+    reach = top-reaches live top is-top
+
     pub takes-nothing : word ≡ 0 → TakesUp n (check lit row) live (Live live) forms forms
-    takes-nothing e = record { long = refl; rest = λ q i. refl; taken = λ l topped. took-nothing n row lit live top v word forms reach wide high topped e }
+    takes-nothing e = record { long = refl; rest = λ q i. refl; taken = λ l topped. took-nothing n row lit live top v word forms reach wide high topped e; refused = λ l. absurd (omega arith) }
 
     pub takes-failed : (eqb v 0 && eqb word 1) ≡ true → TakesUp n (check lit row) live Failed forms forms
     takes-failed t =
@@ -193,6 +218,7 @@ module _ (n : ℕ) (row : Row) (lit : Bool) (live : ℕ) (forms : List ℕ) wher
           long = refl;
           rest = λ q i. refl;
           taken = λ l topped. took-failed n row lit live top v word forms reach wide high topped (eqb-true v 0 (e .0)) (eqb-true word 1 (e .1));
+          refused = λ l. absurd (omega arith);
         }
 
     -- A side that is neither 0 nor 1 has a guess.
@@ -212,6 +238,7 @@ module _ (n : ℕ) (row : Row) (lit : Bool) (live : ℕ) (forms : List ℕ) wher
             long = refl;
             rest = λ q i. refl;
             taken = λ l topped. let m = more-than k new some not-one in let g = S-live n row lit live top v word forms reach wide high topped k new m in absurd (omega arith);
+            refused = λ l. absurd (omega arith);
           }
 
       pub takes-guess : (a b forms′ : List ℕ) → Changed n (addingBelow v k v (sideIn n forms (check lit row))) forms a → Changed n (replacing v k (bit word)) a b
@@ -221,4 +248,5 @@ module _ (n : ℕ) (row : Row) (lit : Bool) (live : ℕ) (forms : List ℕ) wher
             long = moved .long ∙ shut .long ∙ added .long;
             rest = λ i h. moved .rest i h ∙ shut .rest i h ∙ added .rest i h;
             taken = λ l topped. took-guess n row lit live top v word forms reach wide high topped k new (more-than k new some not-one) a b forms′ added shut moved;
+            refused = λ l. absurd (omega arith);
           }

@@ -1,4 +1,4 @@
-pub mod Forms
 pub mod Words
 pub mod Changes
 pub mod Sides
+pub mod Forms

@@ -1,6 +1,6 @@
 -- What the functions on a row's side promise.
 --   check        a row with its lit bit
---   Reaches      the highest word that the live guesses reach
+--   topWord      the highest word that the live guesses reach
 --   wordOf       a word of a qubit's form; 0 for a qubit n or above
 --   IsSideWord   a word of a row's side
 --   HighestPart  the highest word of a row's side that is not 0
@@ -18,9 +18,8 @@ use Rattle.forms.specs.Words.{sideIn}
 abbrev pub check : Bool → Row → Check
 check lit row = record { lit = lit; row = row }
 
-pub record Reaches (live top : ℕ) : Type 0 where
-  pub within : top < 4
-  pub covers : (k : ℕ) → k < 256 → k ≤ live → k / 64 ≤ top
+unfoldable pub topWord : ℕ → ℕ
+topWord live = cond (ltb live 192) (live / 64) 3
 
 unfoldable pub wordOf : ℕ → List ℕ → ℕ → ℕ → ℕ
 wordOf n forms v q = cond (ltb q n) (getD forms (4 * q + v) 0) 0

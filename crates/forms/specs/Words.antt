@@ -3,6 +3,7 @@
 --   joined   the form that words make, however many they are: bit k is bit k modulo 64 of word k / 64
 --   wordsIn  the words of a qubit's form in a list, four each
 --   sideIn   the words of a row's side
+--   oneBit   the words of a guess: its bit alone
 use mathlib.Core.Bool.{_&&_}
 use mathlib.Core.List.{List}
 use Prim.Native.Nat.{ℕ, _+_, _*_, _/_, _%_}
@@ -25,3 +26,6 @@ wordsIn forms q v j = ltb v 4 && bit (getD forms (4 * q + v) 0) j
 -- The lit bit is in word 0. A qubit n or above adds nothing.
 unfoldable pub sideIn : ℕ → List ℕ → Check → Words
 sideIn n forms c v j = (c .lit && (eqb v 0 && eqb j 0)) ⊕ odd (λ q. ltb q n && wordsIn forms q v j) (c .row)
+
+abbrev pub oneBit : ℕ → Words
+oneBit g v j = eqb v (g / 64) && eqb j (g % 64)

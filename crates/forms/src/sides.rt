@@ -3,13 +3,13 @@ ghost use mathlib.Core.Path.{_≡_};
 ghost use mathlib.Core.Bool.{cond};
 ghost use Prim.Native.Nat.{_*_, _≤_, _<_};
 ghost use lib.ListN.{length};
-ghost use Rattle.forms.specs.Sides.{check, Reaches, wordOf, IsSideWord, HighestPart, NewestBit};
+ghost use Rattle.forms.specs.Sides.{check, topWord, wordOf, IsSideWord, HighestPart, NewestBit};
 use crate::Part;
 use code::Qubit;
 
 // The highest word that the live guesses reach.
 pub fn top_word(live: u16) -> usize
-    ensures { λ r. ⌜ Reaches live r ⌝ }
+    ensures { λ r. ⌜ (r ≡ topWord live) × (r < 4) ⌝ }
 {
     if live < 192 {
         return live as usize / 64;

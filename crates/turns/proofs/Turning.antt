@@ -19,6 +19,7 @@ use Rattle.machine.specs.Lists.{view, formsOf}
 use Rattle.forms.specs.Forms.{withLive, Topped, TakenAs, PutsSide, PutsGuess}
 use Rattle.turns.specs.Lists.{stateOf}
 use Rattle.forms.specs.Sides.{check}
+use Rattle.forms.proofs.Putting.{side-put, side-rest, guess-put, guess-rest}
 use Rattle.scans.specs.Rows.{RowLists, rowChecks, GoodRows}
 use Rattle.scans.proofs.Scanning.{open-below, view-set, rest-set}
 use Rattle.kept.specs.Kept.{Kept, RowsOn}
@@ -191,10 +192,10 @@ module _ (n : ℕ) (c : RowLists) (p live : ℕ) (old new : Working) (forms₁ :
   unfolding peelBy
   peel-turned r weighed row e puts v =
       record {
-        stays = stays-put n old new forms₁ (puts .long) (puts .rest) (v .stays);
+        stays = stays-put n old new forms₁ (puts .long) (side-rest n live p (check (eqb (getD (c .lit) r 0) 1) row) (old .forms) forms₁ puts below room) (v .stays);
         turns = λ good ready.
             let was : formsOf n forms₁ ≡ put p (sideOf (rowAt (c .flat) (c .ends) r)) (formsOf n (old .forms))
-            = puts .puts below room (ready .topped) ∙ ap (λ (x : Row). put p (sideOf x) (formsOf n (old .forms))) e in
+            = side-put n live p (check (eqb (getD (c .lit) r 0) 1) row) (old .forms) forms₁ puts below room (ready .topped) ∙ ap (λ (x : Row). put p (sideOf x) (formsOf n (old .forms))) e in
             let top : (k : ℕ) → live < k → sideOf (rowAt (c .flat) (c .ends) r) k ≡ false = λ k l. side-top (withLive n (old .forms) live) (check (eqb (getD (c .lit) r 0) 1) (rowAt (c .flat) (c .ends) r)) k (λ q. ready .topped q k l) (omega arith) in
             let w = v .turns good (mid-ready n c p old forms₁ (sideOf (rowAt (c .flat) (c .ends) r)) was live live weighed (omega arith) top ready) (λ u. refl) live in
             record { comes = λ turns. as-put n c p old forms₁ (sideOf (rowAt (c .flat) (c .ends) r)) was 2 live new t turns live (w .comes turns); ready = w .ready };
@@ -208,9 +209,9 @@ module _ (n : ℕ) (c : RowLists) (p live : ℕ) (old new : Working) (forms₁ :
   unfolding guessBy
   guess-turned newest e l puts v =
       record {
-        stays = stays-put n old new forms₁ (puts .long) (puts .rest) (v .stays);
+        stays = stays-put n old new forms₁ (puts .long) (guess-rest n newest p (old .forms) forms₁ puts below room (omega arith)) (v .stays);
         turns = λ good ready.
-            let was = puts .puts below room (omega arith) (λ q k i. ready .topped q k (omega arith)) in
+            let was = guess-put n newest p (old .forms) forms₁ puts below room (omega arith) (λ q k i. ready .topped q k (omega arith)) in
             let w = v .turns good (mid-ready n c p old forms₁ (λ k. eqb k newest) was live newest true (omega arith) (λ k i. eqb-differ k newest (λ u. absurd (omega arith))) ready) (λ u. never refl u) live in
             record {
               comes = λ turns.

@@ -52,7 +52,7 @@ same-length c = search needs
 
 returns-4 : tie.Need-returns-4
 returns-4 c =
-    puts-guess _ _ _ _ (omega arith) (omega arith) (omega arith) (λ i. omega (arith, c .before .before .before .before .before .before .before .before .slice-known .given i)) _ (c .before .before .clear-words .ensures)
+    puts-guess _ _ _ _ (omega arith) (omega arith) (omega arith) _ (c .before .before .clear-words .ensures)
 
 pub put-guess-spec : {M : Type 1} → statement M
 put-guess-spec =

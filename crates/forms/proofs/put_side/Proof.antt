@@ -3,8 +3,9 @@ use mathlib.Core.Path.{_≡_, _∙_}
 use Prim.Native.Nat.{_+_, _-_, _≤_}
 use native.Mathlib.Omega.{arith}
 use Rattle.forms.specs.Words.{sideIn}
+use Rattle.forms.specs.Changes.{WordsPut}
 use Rattle.forms.specs.Sides.{check}
-use Rattle.forms.proofs.Putting.{WordsPut, put-start, put-turn, side-word-kept, puts-nothing, puts-side}
+use Rattle.forms.proofs.Putting.{put-start, put-turn, side-word-kept, puts-nothing, puts-side}
 use borrow.Author.Needs.{needs}
 use Rattle.forms.proofs.put_side.Statement.{statement}
 use Rattle.forms.proofs.put_side.Tie as tie
@@ -55,7 +56,7 @@ loop-again : tie.Need-loop-again Inv-loop μ-loop
 loop-again c =
     let l = c .before .before .before .loop in
     let e = l .inv .1 .long in
-    let four = c .before .before .before .before .top-word .ensures .within in
+    let four = c .before .before .before .before .top-word .ensures .1 in
     (omega arith, put-turn _ _ _ _ _ _ (l .inv .1) (omega arith) (λ j. c .side-word .ensures .bits j ∙ side-word-kept _ 0 _ _ _ _ _ _ (omega arith) (l .inv .1) j))
 
 same-length : tie.Need-same-length Inv-loop μ-loop
@@ -65,7 +66,7 @@ returns-3 : tie.Need-returns-3 Inv-loop μ-loop
 returns-3 c =
     let l = c .before .loop in
     let e : l .v ≡ c .before .before .top-word .result + 1 = omega arith in
-    puts-side _ _ _ _ _ _ _ _ (omega arith) (c .before .before .top-word .ensures) (λ i. omega (arith, c .before .before .before .before .before .before .slice-known .given i)) (rw e at (l .inv .1))
+    puts-side _ _ _ _ _ _ _ _ (omega arith) (omega arith) (c .before .before .top-word .ensures .0) (rw e at (l .inv .1))
 
 pub put-side-spec : {M : Type 1} → statement M
 put-side-spec =

@@ -18,13 +18,13 @@ same-length : tie.Need-same-length
 same-length c = search needs
 
 returns-2 : tie.Need-returns-2
-returns-2 c = takes-nothing _ _ _ _ _ _ _ _ (c .before .before .before .top-word .ensures) (λ i. omega (arith, c .before .before .before .before .before .slice-known .given i)) (c .before .highest-part .ensures) (c .if2 .taken)
+returns-2 c = takes-nothing _ _ _ _ _ _ _ _ (c .before .before .before .top-word .ensures .0) (omega arith) (λ i. omega (arith, c .before .before .before .before .before .slice-known .given i)) (c .before .highest-part .ensures) (c .if2 .taken)
 
 same-length-2 : tie.Need-same-length-2
 same-length-2 c = search needs
 
 returns-3 : tie.Need-returns-3
-returns-3 c = takes-failed _ _ _ _ _ _ _ _ (c .before .before .before .before .top-word .ensures) (λ i. omega (arith, c .before .before .before .before .before .before .slice-known .given i)) (c .before .before .highest-part .ensures) (c .if3 .taken)
+returns-3 c = takes-failed _ _ _ _ _ _ _ _ (c .before .before .before .before .top-word .ensures .0) (omega arith) (λ i. omega (arith, c .before .before .before .before .before .before .slice-known .given i)) (c .before .before .highest-part .ensures) (c .if3 .taken)
 
 newest-bit-requires : tie.Need-newest-bit-requires
 newest-bit-requires c κs = search needs
@@ -33,7 +33,7 @@ same-length-3 : tie.Need-same-length-3
 same-length-3 c = search needs
 
 returns-4 : tie.Need-returns-4
-returns-4 c = takes-dead _ _ _ _ _ _ _ _ (c .before .before .before .before .before .before .top-word .ensures) (λ i. omega (arith, c .before .before .before .before .before .before .before .before .slice-known .given i)) (c .before .before .before .before .highest-part .ensures) _ (c .before .newest-bit .ensures) (c .before .before .before .if2 .left) (c .before .before .if3 .left) (c .if4 .taken)
+returns-4 c = takes-dead _ _ _ _ _ _ _ _ (c .before .before .before .before .before .before .top-word .ensures .0) (omega arith) (λ i. omega (arith, c .before .before .before .before .before .before .before .before .slice-known .given i)) (c .before .before .before .before .highest-part .ensures) _ (c .before .newest-bit .ensures) (c .before .before .before .if2 .left) (c .before .before .if3 .left) (c .if4 .taken)
 
 add-below-requires : tie.Need-add-below-requires
 add-below-requires c κs = search needs
@@ -52,7 +52,7 @@ same-length-4 c = search needs
 
 returns-5 : tie.Need-returns-5
 returns-5 c =
-    takes-guess _ _ _ _ _ _ _ _ (c .before .before .before .before .before .before .before .before .before .before .before .before .before .before .before .before .before .before .top-word .ensures) (λ i. omega (arith, c .before .before .before .before .before .before .before .before .before .before .before .before .before .before .before .before .before .before .before .before .slice-known .given i)) (c .before .before .before .before .before .before .before .before .before .before .before .before .before .before .before .before .highest-part .ensures) _ (c .before .before .before .before .before .before .before .before .before .before .before .before .before .newest-bit .ensures) (c .before .before .before .before .before .before .before .before .before .before .before .before .before .before .before .if2 .left) (c .before .before .before .before .before .before .before .before .before .before .before .before .before .before .if3 .left)
+    takes-guess _ _ _ _ _ _ _ _ (c .before .before .before .before .before .before .before .before .before .before .before .before .before .before .before .before .before .before .top-word .ensures .0) (omega arith) (λ i. omega (arith, c .before .before .before .before .before .before .before .before .before .before .before .before .before .before .before .before .before .before .before .before .slice-known .given i)) (c .before .before .before .before .before .before .before .before .before .before .before .before .before .before .before .before .highest-part .ensures) _ (c .before .before .before .before .before .before .before .before .before .before .before .before .before .newest-bit .ensures) (c .before .before .before .before .before .before .before .before .before .before .before .before .before .before .before .if2 .left) (c .before .before .before .before .before .before .before .before .before .before .before .before .before .before .if3 .left)
     _ _ _ (c .before .before .before .before .before .before .before .before .before .before .add-below .ensures) (c .before .before .before .before .before .before .replace-in-word .ensures) (c .before .before .move-above .ensures)
 
 pub take-up-spec : {M : Type 1} → statement M
