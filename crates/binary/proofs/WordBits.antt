@@ -1,5 +1,5 @@
 -- The bits of a word: of the machine's operations, of 0, 1 and the powers of 2, and past a word's end. Assumes nothing.
-use mathlib.Core.Path.{_≡_, refl, sym, ap, _∙_}
+use mathlib.Core.Path.{_≡_, refl, sym, ap, ap₂, _∙_}
 use mathlib.Core.Bool.{Bool, true, false, _&&_, _||_}
 use mathlib.Core.Logic.{_⊎_, inl, inr, ⊎-elim}
 use Prim.Native.Nat.{ℕ, zero, suc, _+_, _-_, _*_, _/_, _%_, _^_, _≤_, _<_}
@@ -112,6 +112,19 @@ same-digit q c e =
     iff-eq (eqb (q % 64) (c % 64)) (eqb q c)
     (λ t. let d : q % 64 ≡ c % 64 = eqb-true (q % 64) (c % 64) t in eq-eqb q c (omega arith))
     (λ t. let d : q ≡ c = eqb-true q c t in eq-eqb (q % 64) (c % 64) (omega arith))
+
+-- Any two by word and place.
+pub both-digits : (q c : ℕ) → (eqb (q / 64) (c / 64) && eqb (q % 64) (c % 64)) ≡ eqb q c
+both-digits q c = by (ℕ-discrete (q / 64) (c / 64))
+  where
+    by : Dec (q / 64 ≡ c / 64) → (eqb (q / 64) (c / 64) && eqb (q % 64) (c % 64)) ≡ eqb q c
+    by (yes e) = rw (eq-eqb (q / 64) (c / 64) e) (same-digit q c (sym e))
+    by (no f) = rw (ne-eqb (q / 64) (c / 64) f) (sym (ne-eqb q c (λ e. f (ap (λ (x : ℕ). x / 64) e))))
+
+-- The word and the place of bit j of word v.
+pub digits : {A : Type 0} (v j : ℕ) → j < 64 → (f : ℕ → ℕ → A) → f ((64 * v + j) / 64) ((64 * v + j) % 64) ≡ f v j
+digits v j l f =
+    let a : (64 * v + j) / 64 ≡ v = omega arith in let b : (64 * v + j) % 64 ≡ j = omega arith in ap₂ f a b
 
 ----------------------------------------------------------------------
 -- The highest bit

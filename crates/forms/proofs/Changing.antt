@@ -30,7 +30,7 @@ pub changed-start : (change : Words → Words) (forms : List ℕ) → Changed 0 
 changed-start change forms = record { done = λ q h. absurd (not-suc-le-zero h); rest = λ i h. refl; long = refl }
 
 -- Form q is changed, and the list as it was but for it.
-pub changed-turn : (q : ℕ) (change : Words → Words) (forms₀ forms forms′ : List ℕ) → Changed q change forms₀ forms → length forms′ ≡ length forms
+changed-turn : (q : ℕ) (change : Words → Words) (forms₀ forms forms′ : List ℕ) → Changed q change forms₀ forms → length forms′ ≡ length forms
     → ((i : ℕ) → (i < 4 * q) ⊎ (4 * q + 4 ≤ i) → getD forms′ i 0 ≡ getD forms i 0) → wordsIn forms′ q ≡ change (wordsIn forms q)
     → Changed (q + 1) change forms₀ forms′
 changed-turn q change forms₀ forms forms′ so long beside here =
@@ -45,11 +45,11 @@ changed-turn q change forms₀ forms forms′ so long beside here =
 
 -- A word of a form stored.
 module _ (forms : List ℕ) (q v x : ℕ) (within : v < 4) where
-  pub set-beside : (i : ℕ) → (i < 4 * q) ⊎ (4 * q + 4 ≤ i) → getD (set forms (4 * q + v) x) i 0 ≡ getD forms i 0
+  set-beside : (i : ℕ) → (i < 4 * q) ⊎ (4 * q + 4 ≤ i) → getD (set forms (4 * q + v) x) i 0 ≡ getD forms i 0
   set-beside i h =
       getD-set-other forms (4 * q + v) i x 0 (λ e. ⊎-elim (λ (l : i < 4 * q). absurd (omega arith)) (λ (l : 4 * q + 4 ≤ i). absurd (omega arith)) h)
 
-  pub set-words : 4 * q + v < length forms → (t j : ℕ) → wordsIn (set forms (4 * q + v) x) q t j ≡ cond (eqb t v) (bit x j) (wordsIn forms q t j)
+  set-words : 4 * q + v < length forms → (t j : ℕ) → wordsIn (set forms (4 * q + v) x) q t j ≡ cond (eqb t v) (bit x j) (wordsIn forms q t j)
   set-words inside t j = by (ℕ-discrete t v)
     where
       by : Dec (t ≡ v) → wordsIn (set forms (4 * q + v) x) q t j ≡ cond (eqb t v) (bit x j) (wordsIn forms q t j)

@@ -14,9 +14,9 @@ use lib.Seq.{drop-cons}
 use Rattle.binary.specs.Bits.{_⊕_}
 use Rattle.binary.specs.Meaning.{Row, Check, odd}
 use Rattle.binary.specs.Words.{bit}
-use Rattle.binary.proofs.Bits.{bit as cases, ⊕-false, ⊕-assoc, &&-false, never, eqb-eq, eqb-differ}
+use Rattle.binary.proofs.Bits.{⊕-false, ⊕-assoc, &&-false}
 use Rattle.binary.proofs.Rows.{odd-none}
-use Rattle.binary.proofs.WordBits.{order, bit-xor, bit-zero, bit-one, bit-past, same-digit}
+use Rattle.binary.proofs.WordBits.{order, bit-xor, bit-zero, bit-one, bit-past, both-digits, digits}
 use Rattle.machine.specs.Machine.{side}
 use Rattle.machine.specs.Lists.{formOf}
 use Rattle.machine.proofs.FormWords.{form-in, form-out}
@@ -56,25 +56,16 @@ form-joined forms q k =
     ⊎-elim (λ (l : k < 256). form-in forms q k l ∙ sym (words-in forms q (k / 64) (k % 64) (omega arith)))
     (λ (l : 256 ≤ k). form-out forms q k l ∙ sym (words-out forms q (k / 64) (k % 64) (omega arith))) (order k 256)
 
-pub digits : {A : Type 0} (v j : ℕ) → j < 64 → (f : ℕ → ℕ → A) → f ((64 * v + j) / 64) ((64 * v + j) % 64) ≡ f v j
-digits v j l f =
-    let a : (64 * v + j) / 64 ≡ v = omega arith in let b : (64 * v + j) % 64 ≡ j = omega arith in ap₂ f a b
-
 pub joined-at : (w : Words) (v j : ℕ) → j < 64 → joined w (64 * v + j) ≡ w v j
 joined-at w v j l = digits v j l w
 
 ----------------------------------------------------------------------
 -- The words of a side
 
-zero-digits : (k : ℕ) → (eqb (k / 64) 0 && eqb (k % 64) 0) ≡ eqb k 0
-zero-digits k =
-    cases (eqb (k / 64) 0) (λ t. let e = eqb-eq (k / 64) 0 t in rw t (same-digit k 0 (omega arith)))
-    (λ t. rw t (sym (eqb-differ k 0 (λ (e : k ≡ 0). let z : k / 64 ≡ 0 = omega arith in never (ap (λ (x : ℕ). eqb x 0) z) t))))
-
 pub side-joined : (n live : ℕ) (forms : List ℕ) (c : Check) → side (withLive n forms live) c ≡ joined (sideIn n forms c)
 unfolding sideIn
 side-joined n live forms c =
-    fun-ext λ k. ap₂ (λ (b : Bool) (f : ℕ → Bool). (c .lit && b) ⊕ odd f (c .row)) (sym (zero-digits k)) (fun-ext λ q. ap (ltb q n &&_) (form-joined forms q k))
+    fun-ext λ k. ap₂ (λ (b : Bool) (f : ℕ → Bool). (c .lit && b) ⊕ odd f (c .row)) (sym (both-digits k 0)) (fun-ext λ q. ap (ltb q n &&_) (form-joined forms q k))
 
 -- Where a word is the same in the first n forms, so is that of a side.
 pub side-same : (n : ℕ) (a b : List ℕ) (c : Check) (v j : ℕ) → ((q : ℕ) → q < n → wordsIn a q v j ≡ wordsIn b q v j) → sideIn n a c v j ≡ sideIn n b c v j

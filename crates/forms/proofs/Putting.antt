@@ -14,7 +14,7 @@ use lib.Seq.{getD-set-same, getD-set-other}
 use Rattle.binary.specs.Meaning.{Row, Check}
 use Rattle.binary.specs.Words.{bit}
 use Rattle.binary.proofs.Bits.{eqb-sym}
-use Rattle.binary.proofs.WordBits.{order, bit-zero, bit-pow, one-shl, same-digit}
+use Rattle.binary.proofs.WordBits.{order, bit-zero, bit-pow, one-shl, both-digits}
 use Rattle.machine.specs.Machine.{Form, put, side}
 use Rattle.machine.specs.Lists.{formsOf}
 use Rattle.lists.specs.Cleared.{Cleared}
@@ -41,7 +41,7 @@ put-turn p u s old new x so inside is =
     }
 
 -- A word that is not written yet is the same in every form.
-pub word-kept : (p u : ℕ) (s : Words) (old new : List ℕ) → u < 4 → WordsPut p u s old new → (q j : ℕ) → wordsIn new q u j ≡ wordsIn old q u j
+word-kept : (p u : ℕ) (s : Words) (old new : List ℕ) → u < 4 → WordsPut p u s old new → (q j : ℕ) → wordsIn new q u j ≡ wordsIn old q u j
 word-kept p u s old new l so q j =
     words-in new q u j l ∙ ap (λ (y : ℕ). bit y j) (so .beside (4 * q + u) (by (order q p))) ∙ sym (words-in old q u j l)
   where
@@ -50,7 +50,7 @@ word-kept p u s old new l so q j =
     by (inr h) = inr (omega arith)
 
 -- The form that the words make is put, where neither it nor the old one has a word past those written.
-pub forms-put : (n p u : ℕ) (s : Words) (old new : List ℕ) → p < n → u ≤ 4 → WordsPut p u s old new → ((t j : ℕ) → u ≤ t → j < 64 → s t j ≡ false)
+forms-put : (n p u : ℕ) (s : Words) (old new : List ℕ) → p < n → u ≤ 4 → WordsPut p u s old new → ((t j : ℕ) → u ≤ t → j < 64 → s t j ≡ false)
     → ((t j : ℕ) → u ≤ t → j < 64 → wordsIn old p t j ≡ false) → formsOf n new ≡ put p (joined s) (formsOf n old)
 forms-put n p u s old new h l so s-top old-top = fun-ext λ q. fun-ext λ k. by q k (ℕ-discrete p q)
   where
@@ -111,13 +111,6 @@ side-rest n live p c old new v h room =
 ----------------------------------------------------------------------
 -- A guess
 
-one-joined : (g k : ℕ) → joined (oneBit g) k ≡ eqb k g
-one-joined g k = by (ℕ-discrete (k / 64) (g / 64))
-  where
-    by : Dec (k / 64 ≡ g / 64) → (eqb (k / 64) (g / 64) && eqb (k % 64) (g % 64)) ≡ eqb k g
-    by (yes e) = rw (eq-eqb (k / 64) (g / 64) e) (same-digit k g (sym e))
-    by (no f) = rw (ne-eqb (k / 64) (g / 64) f) (sym (ne-eqb k g (λ e. f (ap (λ (x : ℕ). x / 64) e))))
-
 module _ (n guess p : ℕ) (old : List ℕ) where
   pub guess-nothing : (p < n → 4 * n ≤ length old → guess < 256 → ⊥) → PutsGuess n guess p old old
   guess-nothing not = record { long = refl; put = λ a b c. absurd (not a b c); refused = λ f. refl }
@@ -147,7 +140,7 @@ pub guess-put : (n guess p : ℕ) (old new : List ℕ) → PutsGuess n guess p o
 guess-put n guess p old new v h room few topped =
     forms-put n p (guess / 64 + 1) (oneBit guess) old new h (omega arith) (v .put h room few) (λ t j l b. rw (ne-eqb t (guess / 64) (λ z. absurd (omega arith))))
     (λ t j l b. top-low n guess (guess / 64) old (record { within = omega arith; covers = λ k x y. omega arith }) topped p h t j (omega arith) b)
-    ∙ ap (λ (f : Form). put p f (formsOf n old)) (fun-ext (one-joined guess))
+    ∙ ap (λ (f : Form). put p f (formsOf n old)) (fun-ext (λ k. both-digits k guess))
 
 pub guess-rest : (n guess p : ℕ) (old new : List ℕ) → PutsGuess n guess p old new → p < n → 4 * n ≤ length old → guess < 256 → (i : ℕ) → 4 * n ≤ i → getD new i 0 ≡ getD old i 0
 guess-rest n guess p old new v h room few = put-rest n p (guess / 64 + 1) (oneBit guess) old new h (omega arith) (v .put h room few)

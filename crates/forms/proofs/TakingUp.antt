@@ -59,7 +59,7 @@ module _ (n live top : ℕ) (forms : List ℕ) (reach : Reaches live top) (toppe
   pub side-low : (c : Check) (t j : ℕ) → top < t → j < 64 → sideIn n forms c t j ≡ false
   side-low c t j l b = side-none n forms c t j (rw (ne-eqb t 0 (λ e. absurd (omega arith)))) (λ q h. top-low q h t j l b)
 
-pub side-narrow : (n : ℕ) (forms : List ℕ) → Wide forms → (c : Check) (t j : ℕ) → 64 ≤ j → sideIn n forms c t j ≡ false
+side-narrow : (n : ℕ) (forms : List ℕ) → Wide forms → (c : Check) (t j : ℕ) → 64 ≤ j → sideIn n forms c t j ≡ false
 side-narrow n forms wide c t j l =
     side-none n forms c t j (rw (ne-eqb j 0 (λ e. absurd (omega arith))) (&&-false (eqb t 0))) (λ q h. words-narrow forms wide q t j l)
 

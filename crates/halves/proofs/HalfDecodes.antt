@@ -23,7 +23,7 @@ use Rattle.machine.specs.Machine.{Form, End, isOpen, decoded}
 use Rattle.machine.specs.Fillings.{filling}
 use Rattle.machine.specs.Report.{none?, shown}
 use Rattle.machine.specs.Lists.{view, formOf, HalfLists, digit, Shows, Past}
-use Rattle.machine.proofs.FormWords.{form-in, form-out, form-at as form-at-word}
+use Rattle.machine.proofs.FormWords.{form-in, form-out, form-first}
 use Rattle.halves.specs.Decode.{Given, ownRows, fitting, Decodes}
 use Rattle.turns.specs.declared.RunAnswer.{RunAnswer}
 use Rattle.turns.specs.declared.RunAnswer.the-variants.{Over}
@@ -96,11 +96,8 @@ module _ (n : ℕ) (c : RowLists) (mid : Working) (correction : List ℕ) (new :
       f .correction .first q i ∙ ap (λ (w : Word). cond (finished? w) (getD (mid .forms) (4 * q) 0 % 2) 0) word
       ∙ cases (finished? (e .word))
       (λ j. rw j (digit-constant (getD (mid .forms) (4 * q) 0)
-      ∙ ap digit (constant q ∙ form-at (not-none (e .word) j) q i 0 ∙ sym (value-off (e .state .forms .live) (e .state .forms .form q)))))
+      ∙ ap digit (sym (form-first (mid .forms) q 0 (omega arith)) ∙ form-at (not-none (e .word) j) q i 0 ∙ sym (value-off (e .state .forms .live) (e .state .forms .form q)))))
       (λ j. rw j)
-    where
-      constant : (q : ℕ) → bit (getD (mid .forms) (4 * q) 0) 0 ≡ formOf (mid .forms) q 0
-      constant q = let z : 4 * q + 0 ≡ 4 * q = omega arith in ap (λ (x : ℕ). bit (getD (mid .forms) x 0) 0) (sym z) ∙ sym (form-at-word (mid .forms) q 0 0 (omega arith) (omega arith))
 
   -- At any end but none the marks stay, and with them what is kept of the rows.
   marks-stay : none? (e .word) ≡ false → view n (mid .marks) ≡ view n (new .marks)

@@ -1,5 +1,5 @@
 -- The words of a form and its bits. Assumes nothing.
-use mathlib.Core.Path.{_≡_, sym, ap, ap₂, _∙_}
+use mathlib.Core.Path.{_≡_, sym, ap₂, _∙_}
 use mathlib.Core.Bool.{false}
 use mathlib.Core.Logic.{⊎-elim}
 use mathlib.Core.List.{List}
@@ -10,7 +10,7 @@ use lib.ListN.{getD}
 use borrow.Author.Tests.{lt-ltb, le-ltb, le-leb, leb-true}
 use Rattle.binary.specs.Words.{bit}
 use Rattle.binary.proofs.Bits.{iff-eq}
-use Rattle.binary.proofs.WordBits.{order, bit-past, bits-none}
+use Rattle.binary.proofs.WordBits.{order, bit-past, bits-none, digits}
 use Rattle.machine.specs.Report.{Shown, outcome}
 use Rattle.machine.specs.Lists.{formOf}
 use Rattle.machine.specs.Demands.{ReachLaw}
@@ -28,10 +28,14 @@ module _ (forms : List ℕ) (q : ℕ) where
 
   -- Bit j of word v.
   pub form-at : (v j : ℕ) → v < 4 → j < 64 → formOf forms q (64 * v + j) ≡ bit (getD forms (4 * q + v) 0) j
-  form-at v j h l =
-      let a : (64 * v + j) / 64 ≡ v = omega arith in
-      let b : (64 * v + j) % 64 ≡ j = omega arith in
-      form-in (64 * v + j) (omega arith) ∙ ap₂ (λ (x y : ℕ). bit (getD forms (4 * q + x) 0) y) a b
+  form-at v j h l = form-in (64 * v + j) (omega arith) ∙ digits v j l (λ x y. bit (getD forms (4 * q + x) 0) y)
+
+  -- The first word has the first 64 bits.
+  pub form-first : (k : ℕ) → k < 64 → formOf forms q k ≡ bit (getD forms (4 * q) 0) k
+  form-first k l =
+      let a : 4 * q + k / 64 ≡ 4 * q = omega arith in
+      let b : k % 64 ≡ k = omega arith in
+      form-in k (omega arith) ∙ ap₂ (λ (x y : ℕ). bit (getD forms x 0) y) a b
 
 -- Where no bit from 64 on is set, the first word is the form.
 pub one-word : OneWordLaw
@@ -46,13 +50,7 @@ one-word h budget limit few old new s = record { marks = s .marks; first = first
 
     first : (q : ℕ) → q < h .size → (k : ℕ) → bit (getD (new .forms) (4 * q) 0) k ≡ o .form q k
     first q i k =
-        ⊎-elim (λ (l : k < 64). low l) (λ (l : 64 ≤ k). bit-past (getD (new .forms) (4 * q) 0) 64 k (s .words (4 * q) (omega arith)) l ∙ sym (past q k l)) (order k 64)
-      where
-        low : k < 64 → bit (getD (new .forms) (4 * q) 0) k ≡ o .form q k
-        low l =
-            let a : 4 * q + 0 ≡ 4 * q = omega arith in
-            let b : 64 * 0 + k ≡ k = omega arith in
-            ap (λ (x : ℕ). bit (getD (new .forms) x 0) k) (sym a) ∙ sym (form-at (new .forms) q 0 k (omega arith) l) ∙ ap (formOf (new .forms) q) b ∙ s .forms q i k
+        ⊎-elim (λ (l : k < 64). sym (form-first (new .forms) q k l) ∙ s .forms q i k) (λ (l : 64 ≤ k). bit-past (getD (new .forms) (4 * q) 0) 64 k (s .words (4 * q) (omega arith)) l ∙ sym (past q k l)) (order k 64)
 
     others : (q : ℕ) → q < h .size → (v : ℕ) → 1 ≤ v → v < 4 → getD (new .forms) (4 * q + v) 0 ≡ 0
     others q i v a b = bits-none (getD (new .forms) (4 * q + v) 0) (s .words (4 * q + v) (omega arith)) each

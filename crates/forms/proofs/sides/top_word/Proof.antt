@@ -1,5 +1,4 @@
 -- `forms::sides::top_word` meets its contract. Assumes nothing.
-use mathlib.Core.Path.{sym}
 use native.Mathlib.Omega.{arith}
 use borrow.Author.Tests.{lt-ltb, le-ltb}
 use Rattle.forms.specs.Sides.{topWord}
