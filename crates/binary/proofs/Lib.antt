@@ -6,3 +6,4 @@ pub mod Elimination
 pub mod WordBits
 pub mod Weights
 pub mod UpTo
+pub mod Rank

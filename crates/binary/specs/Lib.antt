@@ -3,3 +3,4 @@ pub mod Meaning
 pub mod Classes
 pub mod Words
 pub mod Elimination
+pub mod Rank

@@ -6,3 +6,4 @@ pub mod Losts
 pub mod Route
 pub mod Marked
 pub mod Examples
+pub mod Ranks

@@ -1,3 +1,4 @@
 pub mod Route
 pub mod Marked
 pub mod Search
+pub mod Ranks
