@@ -51,6 +51,19 @@ pub flat-second : (before rows : List Row) (flat ends : List ℕ) → Flat (befo
     → (from to : ℕ) → from ≡ length before → to ≡ length before + length rows → rowsBetween flat ends from to ≡ rows
 flat-second before rows flat ends f = flat-rows before rows [] flat ends (rw (append-nil rows) f)
 
+-- The same, by how many they are.
+pub rows-first : (rows more : List Row) (flat ends : List ℕ) → Flat (rows ++ more) flat ends → rowsFrom flat ends 0 (length rows) ≡ rows
+unfolding rowsBetween
+rows-first rows more flat ends f =
+    let e : length rows ≡ length rows - 0 = omega arith in
+    ap (rowsFrom flat ends 0) e ∙ flat-first rows more flat ends f (length rows) refl
+
+pub rows-second : (before rows : List Row) (flat ends : List ℕ) → Flat (before ++ rows) flat ends → rowsFrom flat ends (length before) (length rows) ≡ rows
+unfolding rowsBetween
+rows-second before rows flat ends f =
+    let e : length rows ≡ length before + length rows - length before = omega arith in
+    ap (rowsFrom flat ends (length before)) e ∙ flat-second before rows flat ends f (length before) (length before + length rows) refl refl
+
 ----------------------------------------------------------------------
 -- Where they start
 

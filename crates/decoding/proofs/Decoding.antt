@@ -197,6 +197,6 @@ module _ (budget limit : ℕ) (st : State) (flat ends shot shot′ work : List �
           x-past = d .x-past;
           z-past = d .z-past;
           refused = λ n e. let z : _≡_ {A = ℕ} 0 1 = cc in absurd (omega arith);
-          says = says-nothing (report budget limit) st r (λ n e. let z : _≡_ {A = ℕ} 0 1 = cc in omega arith);
+          says = says-nothing (report budget limit) st r refl (λ n e. let z : _≡_ {A = ℕ} 0 1 = cc in omega arith);
           carried = with-code st (old .lists) (λ a. Carried (report budget limit) a old new r) (p .coded) (λ c s v. rw f (decoded c s v));
         }

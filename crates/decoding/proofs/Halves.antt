@@ -13,9 +13,9 @@ use Rattle.binary.specs.Meaning.{Row, All, Commute, commute?}
 use Rattle.binary.specs.Words.{listed}
 use Rattle.binary.proofs.Bits.{and-in}
 use Rattle.binary.proofs.Tests.{commute-test}
-use Rattle.code.specs.Lists.{rowsFrom, rowsBetween, Flat}
+use Rattle.code.specs.Lists.{rowsFrom, Flat}
 use Rattle.code.specs.Tests.{Ascending}
-use Rattle.code.proofs.Flat.{flat-first, flat-second}
+use Rattle.code.proofs.Flat.{rows-first, rows-second}
 use Rattle.commuting.proofs.Sharing.{commute-symmetric}
 use Rattle.machine.specs.declared.HalfReport.{HalfReport}
 use Rattle.machine.specs.Machine.{Half}
@@ -121,17 +121,10 @@ rows-obey n a b d e even = record { own = rw a d; other-kind = rw b e; commute =
 -- The halves of a code and shot that lists hold.
 module _ (c : Code) (s : Shot) (l : Lists) (f : Flat (c .xs ++ c .zs) (l .flat) (l .ends)) (v : HeldShot c s (l .shot)) (budget limit : ℕ) where
   x-rows : rowsFrom (l .flat) (l .ends) 0 (length (c .xs)) ≡ c .xs
-  unfolding rowsBetween
-  x-rows =
-      let e : length (c .xs) ≡ length (c .xs) - 0 = omega arith in
-      ap (rowsFrom (l .flat) (l .ends) 0) e ∙ flat-first (c .xs) (c .zs) (l .flat) (l .ends) f (length (c .xs)) refl
+  x-rows = rows-first (c .xs) (c .zs) (l .flat) (l .ends) f
 
   z-rows : rowsFrom (l .flat) (l .ends) (length (c .xs)) (length (c .zs)) ≡ c .zs
-  unfolding rowsBetween
-  z-rows =
-      let e : length (c .zs) ≡ length (c .xs) + length (c .zs) - length (c .xs) = omega arith in
-      ap (rowsFrom (l .flat) (l .ends) (length (c .xs))) e
-      ∙ flat-second (c .xs) (c .zs) (l .flat) (l .ends) f (length (c .xs)) (length (c .xs) + length (c .zs)) refl refl
+  z-rows = rows-second (c .xs) (c .zs) (l .flat) (l .ends) f
 
   pub shown-held : (p : Pauli) → shownOf (givenOf p (sizesOf c) l budget limit) ≡ outcome (half p c s) budget limit
   shown-held X =

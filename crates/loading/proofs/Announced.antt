@@ -38,7 +38,7 @@ module _ (st : State) (n x z : ℕ) (short : Bool) (r : Reply) where
   unfolding Does refusal
   size-taken e s p =
       record {
-        says = says-nothing (size n x z) st r (λ m i. not-refused (record { n = n; x = x; z = z }) 0 false m (sym (ap (λ (y : Reply). y .answer) p) ∙ i));
+        says = says-nothing (size n x z) st r refl (λ m i. not-refused (record { n = n; x = x; z = z }) 0 false m (sym (ap (λ (y : Reply). y .answer) p) ∙ i));
         does = λ l six a h.
             let begun = grown-none (record { n = n; x = x; z = z }) l e in
             answered short six (size n x z) a l l r none (rw (e, s)) (grown-answer _ _ _ _ _ l begun r (λ t. refl) p) (grown-holds _ _ _ _ _ l begun r (λ t. refl) p) refl;

@@ -243,7 +243,7 @@ module _ (p : Pauli) (st : State) (flat ends : List ℕ) (q : Row) (r : Reply) w
           flat-long = long .0;
           ends-long = long .1;
           refused = λ n i. absurd (taken n i);
-          says = says-nothing (row p q) st r taken;
+          says = says-nothing (row p q) st r refl taken;
           does = λ six shot w wide. row-added p st flat ends shot q six t asc clash told flat′ ends′ done r w (wide refl .0) (wide refl .1) (sym last ∙ e) push is;
         }
       where

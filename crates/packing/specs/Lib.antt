@@ -1,2 +1,3 @@
 pub mod Packed
 pub mod Packing
+pub mod PackedRows

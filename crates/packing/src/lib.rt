@@ -1,12 +1,17 @@
 // Rows packed into the words of a lent list.
 ghost use mathlib.Core.Path.{_≡_};
+ghost use Prim.Native.Nat.{_≤_};
 ghost use lib.Dec.{eqb};
+ghost use lib.ListN.{length};
 ghost use Rattle.binary.specs.Meaning.{has};
 ghost use Rattle.packing.specs.Packed.{wordsFor, Put};
 ghost use Rattle.packing.specs.Packing.{RowIn, BitsSet};
+ghost use Rattle.packing.specs.PackedRows.{RowsPut, PackedFrom};
+use code::Row;
+use code::Rows;
 use lists::clear_words;
 
-// A qubit as an index.
+// A number as an index.
 fn index(x: u16) -> usize
     ensures { λ r. ⌜ r ≡ x ⌝ }
 {
@@ -62,4 +67,32 @@ pub fn put_row(work: &mut [u64], words: usize, i: usize, row: &[u16]) -> bool
     clear_words(work, start, start + words);
     set_bits(work, words, i, row);
     true
+}
+
+// The rows of the code packed one after the other, from the start of the work list.
+fn put_rows(n: u16, flat: &[u16], ends: &[u16], rows: Rows, work: &mut [u64])
+    requires { ⌜ (n ≤ 1024) × (rows .count ≤ 512) × (rows .first .0 ≤ 512) × (8192 ≤ length (now work)) ⌝ }
+    ensures { λ _. ⌜ RowsPut n (now (flat .entry)) (now (ends .entry)) (rows .first .0) (rows .count) (now (work .entry)) (now (work .exit)) ⌝ }
+{
+    let words = words_for(n);
+    let first = rows.first;
+    let count = rows.count;
+    let mut i: u16 = 0;
+    while i < count {
+        let row = code::row_at(flat, ends, Row(first.0 + i));
+        put_row(work, words, index(i), row);
+        i += 1;
+    }
+}
+
+// Packs rows of the code, of `n` columns, into the work list. Answers whether there is room; if not, nothing is written.
+pub fn pack_rows(n: u16, flat: &[u16], ends: &[u16], rows: Rows, work: &mut [u64]) -> bool
+    ensures { λ r. ⌜ PackedFrom n (now (flat .entry)) (now (ends .entry)) (rows .first .0) (rows .count) (now (work .entry)) (now (work .exit)) r ⌝ }
+{
+    let first = rows.first;
+    let room = (n <= 1024) & (rows.count <= 512) & (first.0 <= 512) & (8192 <= work.len());
+    if room {
+        put_rows(n, flat, ends, rows, work);
+    }
+    room
 }

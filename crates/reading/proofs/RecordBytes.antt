@@ -9,7 +9,7 @@ use lib.ListN.{length, getD}
 use borrow.Author.Tests.{eq-eqb, ne-eqb}
 use Rattle.binary.proofs.Bits.{never}
 use Rattle.reading.specs.declared.Shape.{Shape}
-use Rattle.reading.specs.declared.Shape.the-variants.{Unknown, Wrong, Size, Lose, Light, Unread, Decode}
+use Rattle.reading.specs.declared.Shape.the-variants.{Unknown, Wrong, Size, Lose, Light, Unread, Decode, Logical}
 use Rattle.records.specs.Records.{kindOf, wholeLength, wrong, readIf, recordOf}
 use Rattle.reading.specs.Shapes.{kindAs, widthIn, unknown?, RecordAs}
 
@@ -35,6 +35,7 @@ module _ (bytes : List ℕ) (some-bytes : length bytes ≡ 0 → ⊥) (s : Shape
       nothing (Light x) i = never i refl
       nothing (Unread x) i = never i refl
       nothing Decode i = never i refl
+      nothing Logical i = never i refl
 
   -- A record of a kind is as long as the kind says, or it is not of its length.
   pub record-wrong : unknown? s ≡ false → (length bytes ≡ wholeLength (kindAs s) → ⊥) → RecordAs bytes Wrong
@@ -50,6 +51,7 @@ module _ (bytes : List ℕ) (some-bytes : length bytes ≡ 0 → ⊥) (s : Shape
       other (Light x) i j = rw (ne-eqb (length bytes) 3 j)
       other (Unread x) i j = rw (ne-eqb (length bytes) 3 j)
       other Decode i j = rw (ne-eqb (length bytes) 4 j)
+      other Logical i j = rw (ne-eqb (length bytes) 3 j)
 
   pub record-right : unknown? s ≡ false → widthIn s ≤ 16 → length bytes ≡ wholeLength (kindAs s) → RecordAs bytes s
   unfolding RecordAs
@@ -64,3 +66,4 @@ module _ (bytes : List ℕ) (some-bytes : length bytes ≡ 0 → ⊥) (s : Shape
       is (Light x) i f j w = w ∙ rw (eq-eqb (length bytes) 3 j)
       is (Unread x) i f j w = w ∙ rw (eq-eqb (length bytes) 3 j)
       is Decode i f j w = w ∙ rw (eq-eqb (length bytes) 4 j)
+      is Logical i f j w = w ∙ rw (eq-eqb (length bytes) 3 j)

@@ -10,8 +10,8 @@ use mathlib.Core.List.{List}
 use Prim.Native.Nat.{ℕ, _≤_}
 use lib.ListN.{getD}
 use Rattle.reading.specs.declared.Shape.{Shape}
-use Rattle.reading.specs.declared.Shape.the-variants.{Unknown, Wrong, Size, Lose, Light, Unread, Decode}
-use Rattle.records.specs.Records.{pauli, lost, lit, unread, Kind, sizes, decode, rowOf, member, unknown, wrong, size, row, add, report, number, numbers, recordOf}
+use Rattle.reading.specs.declared.Shape.the-variants.{Unknown, Wrong, Size, Lose, Light, Unread, Decode, Logical}
+use Rattle.records.specs.Records.{pauli, lost, lit, unread, Kind, sizes, decode, logical, rowOf, member, unknown, wrong, size, row, add, report, encodes, number, numbers, recordOf}
 
 abbrev pub kindAs : Shape → Option Kind
 kindAs Unknown = none
@@ -22,6 +22,7 @@ kindAs Lose = some (member lost)
 kindAs (Light x) = some (member (lit (pauli x)))
 kindAs (Unread x) = some (member (unread (pauli x)))
 kindAs Decode = some decode
+kindAs Logical = some logical
 
 -- How many qubits a row has.
 abbrev pub widthIn : Shape → ℕ
@@ -33,6 +34,7 @@ widthIn Lose = 0
 widthIn (Light x) = 0
 widthIn (Unread x) = 0
 widthIn Decode = 0
+widthIn Logical = 0
 
 abbrev pub unknown? : Shape → Bool
 unknown? Unknown = true
@@ -43,6 +45,7 @@ unknown? Lose = false
 unknown? (Light x) = false
 unknown? (Unread x) = false
 unknown? Decode = false
+unknown? Logical = false
 
 abbrev pub decode? : Shape → Bool
 decode? Unknown = false
@@ -53,6 +56,7 @@ decode? Lose = false
 decode? (Light x) = false
 decode? (Unread x) = false
 decode? Decode = true
+decode? Logical = false
 
 unfoldable pub RecordAs : List ℕ → Shape → Type 0
 RecordAs bytes Unknown = recordOf bytes ≡ unknown
@@ -63,3 +67,4 @@ RecordAs bytes Lose = recordOf bytes ≡ add lost (number bytes 1)
 RecordAs bytes (Light x) = recordOf bytes ≡ add (lit (pauli x)) (number bytes 1)
 RecordAs bytes (Unread x) = recordOf bytes ≡ add (unread (pauli x)) (number bytes 1)
 RecordAs bytes Decode = recordOf bytes ≡ report (getD bytes 1 0) (number bytes 2)
+RecordAs bytes Logical = recordOf bytes ≡ encodes (number bytes 1)

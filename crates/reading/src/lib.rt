@@ -19,4 +19,5 @@ pub enum Shape {
     Light(bool),
     Unread(bool),
     Decode,
+    Logical,
 }

@@ -30,6 +30,9 @@ fn named(b: u8) -> Shape
     if b == 7 {
         return Shape::Unread(true);
     }
+    if b == 8 {
+        return Shape::Logical;
+    }
     if b < 33 {
         return Shape::Unknown;
     }
@@ -58,6 +61,7 @@ fn length_of(s: Shape) -> usize
         Shape::Light(x) => 3,
         Shape::Unread(x) => 3,
         Shape::Decode => 4,
+        Shape::Logical => 3,
     }
 }
 
@@ -81,6 +85,7 @@ fn is_unknown(s: Shape) -> bool
         Shape::Light(x) => false,
         Shape::Unread(x) => false,
         Shape::Decode => false,
+        Shape::Logical => false,
     }
 }
 
@@ -97,6 +102,7 @@ pub fn is_decode(s: Shape) -> bool
         Shape::Light(x) => false,
         Shape::Unread(x) => false,
         Shape::Decode => true,
+        Shape::Logical => false,
     }
 }
 

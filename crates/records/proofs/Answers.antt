@@ -4,15 +4,16 @@ use mathlib.Core.Bool.{Bool, true, false, not}
 use mathlib.Core.Option.{Option, none, some}
 use mathlib.Core.List.{List}
 use Prim.Native.Nat.{ℕ}
+use native.Mathlib.Omega.{arith}
 use lib.ListN.{length}
 use borrow.Author.Tests.{not-true, not-false}
 use Rattle.binary.proofs.Bits.{never}
 use Rattle.machine.specs.Lists.{HalfLists, Past, SameLengths}
 use Rattle.records.specs.declared.State.{State}
 use Rattle.records.specs.declared.Refusal.{Refusal}
-use Rattle.records.specs.declared.Answer.the-variants.{Refused}
+use Rattle.records.specs.declared.Answer.the-variants.{Refused, Taken}
 use Rattle.records.specs.declared.Reply.{Reply}
-use Rattle.records.specs.Records.{Record, unknown, wrong, size, row, add, report}
+use Rattle.records.specs.Records.{Record, unknown, wrong, size, row, add, report, encodes}
 use Rattle.records.specs.History.{History}
 use Rattle.records.specs.Table.{refusal, isReport, afterwards}
 use Rattle.records.specs.Lists.{Lists, Six, Lent, lentOf, shortLists, shortSix, Represents}
@@ -47,13 +48,33 @@ same-lengths l = record { marks = refl; forms = refl; correction = refl }
 pub past-same : (n : ℕ) (l : HalfLists) → Past n l l
 past-same n l = record { marks = λ q i. refl; forms = λ q i. refl; correction = λ q i. refl }
 
--- A reply that refuses says what the table says; one that does not, nothing.
+-- A reply that refuses says what the table says.
 pub says-refused : (w : Record) (st : State) (r : Reply) (n : Refusal) → r ≡ saying n (isReport w) st → Says w st r
-says-refused w st r n e m f =
-    let same : n ≡ m = cc in ap (λ (x : Reply). x .state) e ∙ ap (λ (k : Refusal). leftBy k (isReport w) st) same
+says-refused w st r n e =
+    record {
+      refused = λ m f. let same : n ≡ m = cc in ap (λ (x : Reply). x .state) e ∙ ap (λ (k : Refusal). leftBy k (isReport w) st) same;
+      agreed = λ k i f. let z : _≡_ {A = ℕ} 0 1 = cc in absurd (omega arith);
+    }
 
-pub says-nothing : (w : Record) (st : State) (r : Reply) → ((n : Refusal) → r .answer ≡ Refused n → ⊥) → Says w st r
-says-nothing w st r f n e = absurd (f n e)
+-- One that does not, of any kind but 8, says nothing.
+abbrev isTest : Record → Bool
+isTest unknown = false
+isTest wrong = false
+isTest (size n x z) = false
+isTest (row p r) = false
+isTest (add u k) = false
+isTest (report budget limit) = false
+isTest (encodes k) = true
+
+pub says-nothing : (w : Record) (st : State) (r : Reply) → isTest w ≡ false → ((n : Refusal) → r .answer ≡ Refused n → ⊥) → Says w st r
+says-nothing w st r t f = record { refused = λ n e. absurd (f n e); agreed = λ k i e. never (ap isTest i) t }
+
+pub says-same : (k : ℕ) (st : State) (r : Reply) → r ≡ record { state = st; answer = Taken } → Says (encodes k) st r
+says-same k st r e =
+    record {
+      refused = λ n f. let z : _≡_ {A = ℕ} 0 1 = cc in absurd (omega arith);
+      agreed = λ j i f. ap (λ (x : Reply). x .state) e;
+    }
 
 pub unchanged : (l : Lent) → KeptLengths l l
 unchanged l = record { flat = refl; ends = refl; shot = refl; work = refl; x = same-lengths (l .six .x); z = same-lengths (l .six .z) }
@@ -74,6 +95,7 @@ untouched none (size n x z) a s e = refl
 untouched none (row p r) a s e = refl
 untouched none (add u k) a s e = refl
 untouched none (report budget limit) a s e = never refl e
+untouched none (encodes k) a s e = refl
 
 unworked : (n : Option Refusal) (w : Record) (k : List ℕ) → isReport w ≡ false → Unworked n w k k
 unworked (some n) w k e = refl
@@ -83,6 +105,7 @@ unworked none (size n x z) k e = refl
 unworked none (row p r) k e = refl
 unworked none (add u j) k e = refl
 unworked none (report budget limit) k e = never refl e
+unworked none (encodes j) k e = refl
 
 pub promised : (w : Record) (st : State) (l l′ : Lists) (work : List ℕ) (six : Six) (r : Reply) → isReport w ≡ false → Keeps w st l l′ r
     → Does (shortLists l (length work)) (shortSix six) w st l l′ r → Promised w st (lentOf l work six) (lentOf l′ work six) r

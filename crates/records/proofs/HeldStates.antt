@@ -10,7 +10,7 @@ use Rattle.records.specs.declared.State.{State}
 use Rattle.records.specs.History.{Code, Shot, Domain, qubits, rows, already, History, empty, loading, ready, emptyShot, spoil, endShot}
 use Rattle.records.specs.Table.{complete, isReport, leaves}
 use Rattle.records.specs.declared.Refusal.{Refusal}
-use Rattle.records.specs.declared.Refusal.the-variants.{Unknown, Length, Size, Place, Clash, Codeless, Range, Twice, Spoiled, Short}
+use Rattle.records.specs.declared.Refusal.the-variants.{Unknown, Length, Size, Place, Clash, Codeless, Range, Twice, Spoiled, Short, Encoded}
 use Rattle.records.specs.Records.{Record}
 use Rattle.records.specs.Lists.{Lists, NoShot, ShotIn, Loads, Holds, Represents}
 use Rattle.records.specs.States.{withoutCode, spoiledOf, endedOf, leftBy}
@@ -95,6 +95,7 @@ module _ (st : State) (l : Lists) where
   holds-left Twice w a h = holds-spoiled a h
   holds-left Spoiled w a h = holds-ended a h
   holds-left Short w a h = holds-short w (isReport w) refl a h
+  holds-left Encoded w a h = refl
 
 ----------------------------------------------------------------------
 -- Code or no code

@@ -6,7 +6,7 @@ use Prim.Native.Nat.{ℕ, _-_, _≤_, _<_}
 use native.Mathlib.Omega.{arith}
 use lib.Dec.{leb}
 use borrow.Author.Tests.{ne-eqb, le-leb, lt-leb}
-use Rattle.records.specs.Records.{X, Z, lost, lit, unread, sizes, decode, rowOf, member, between, kindOf}
+use Rattle.records.specs.Records.{X, Z, lost, lit, unread, sizes, decode, logical, rowOf, member, between, kindOf}
 
 pub kind-size : (b : ℕ) → b ≡ 1 → kindOf b ≡ some sizes
 unfolding kindOf
@@ -36,7 +36,11 @@ pub kind-unread-x : (b : ℕ) → b ≡ 7 → kindOf b ≡ some (member (unread 
 unfolding kindOf
 kind-unread-x b e = rw e
 
--- Of none of the seven numbers: a row, or nothing.
+pub kind-logical : (b : ℕ) → b ≡ 8 → kindOf b ≡ some logical
+unfolding kindOf
+kind-logical b e = rw e
+
+-- Of none of the eight numbers: a row, or nothing.
 pub record NoNumber (b : ℕ) : Type 0 where
   pub n1 : b ≡ 1 → ⊥
   pub n2 : b ≡ 2 → ⊥
@@ -45,10 +49,11 @@ pub record NoNumber (b : ℕ) : Type 0 where
   pub n5 : b ≡ 5 → ⊥
   pub n6 : b ≡ 6 → ⊥
   pub n7 : b ≡ 7 → ⊥
+  pub n8 : b ≡ 8 → ⊥
 
 rest : (b : ℕ) → NoNumber b → kindOf b ≡ cond (between 33 48 b) (some (rowOf X (b - 32))) (cond (between 65 80 b) (some (rowOf Z (b - 64))) none)
 unfolding kindOf
-rest b n = rw (ne-eqb b 1 (n .n1), ne-eqb b 2 (n .n2), ne-eqb b 3 (n .n3), ne-eqb b 4 (n .n4), ne-eqb b 5 (n .n5), ne-eqb b 6 (n .n6), ne-eqb b 7 (n .n7))
+rest b n = rw (ne-eqb b 1 (n .n1), ne-eqb b 2 (n .n2), ne-eqb b 3 (n .n3), ne-eqb b 4 (n .n4), ne-eqb b 5 (n .n5), ne-eqb b 6 (n .n6), ne-eqb b 7 (n .n7), ne-eqb b 8 (n .n8))
 
 large : (b : ℕ) → 33 ≤ b → NoNumber b
 large b h = record {
@@ -59,6 +64,7 @@ large b h = record {
   n5 = λ e. omega arith;
   n6 = λ e. omega arith;
   n7 = λ e. omega arith;
+  n8 = λ e. omega arith;
 }
 
 pub kind-row-x : (b : ℕ) → 33 ≤ b → b ≤ 48 → kindOf b ≡ some (rowOf X (b - 32))

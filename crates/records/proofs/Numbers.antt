@@ -9,8 +9,8 @@ use native.Mathlib.Nat.{le-refl, le-trans}
 use native.Mathlib.Omega.{arith}
 use Rattle.binary.proofs.Bits.{never}
 use Rattle.records.specs.declared.Refusal.{Refusal}
-use Rattle.records.specs.declared.Refusal.the-variants.{Unknown, Length, Size, Place, Clash, Codeless, Range, Twice, Spoiled, Short}
-use Rattle.records.specs.Records.{Record, unknown, wrong, size, row, add, report}
+use Rattle.records.specs.declared.Refusal.the-variants.{Unknown, Length, Size, Place, Clash, Codeless, Range, Twice, Spoiled, Short, Encoded}
+use Rattle.records.specs.Records.{Record, unknown, wrong, size, row, add, report, encodes}
 use Rattle.records.specs.History.{History}
 use Rattle.records.specs.Table.{refusalNumber, tests, lowest, refusal, Applies, LowestNumber, Numbered, NumberedLaw, AnyBudget}
 
@@ -56,6 +56,7 @@ ascending short six (size n x z) a = (omega arith, (omega arith, tt))
 ascending short six (row p r) a = (omega arith, (omega arith, (omega arith, (omega arith, tt))))
 ascending short six (add u k) a = (omega arith, (omega arith, (omega arith, (omega arith, tt))))
 ascending short six (report budget limit) a = (omega arith, (omega arith, (omega arith, tt)))
+ascending short six (encodes k) a = (omega arith, (omega arith, (omega arith, tt)))
 
 pub lowest-numbered : NumberedLaw
 unfolding NumberedLaw refusal
@@ -77,3 +78,4 @@ any-budget = record { unused = unused; same = λ short six budget budget′ limi
     unused Twice e = omega arith
     unused Spoiled e = omega arith
     unused Short e = omega arith
+    unused Encoded e = omega arith

@@ -3,7 +3,7 @@
 --   Left        what an answer leaves in the lists of code and shot
 --   Written     what an answer leaves in the six lists; Unworked: in the work list
 --   refusalAt   the refusal that a record meets at a code and shot, with these lists lent; testsAt: the tests of the table
---   Says        a refusal leaves the state that the table says
+--   Says        the state that a refusal leaves, and a kind 8 that agrees
 --   Promised    what a record promises; Promise: the promise of `step`, of the record that the bytes are
 use mathlib.Core.Path.{_≡_}
 use mathlib.Core.Bool.{Bool}
@@ -22,7 +22,7 @@ use Rattle.records.specs.declared.Refusal.{Refusal}
 use Rattle.records.specs.declared.Answer.{Answer}
 use Rattle.records.specs.declared.Answer.the-variants.{Refused, Taken, Complete, Decoded}
 use Rattle.records.specs.declared.Reply.{Reply}
-use Rattle.records.specs.Records.{X, Z, Record, unknown, wrong, size, row, add, report, recordOf}
+use Rattle.records.specs.Records.{X, Z, Record, unknown, wrong, size, row, add, report, encodes, recordOf}
 use Rattle.records.specs.History.{Code, rowCount, sizesOf, Shot, History, empty, loading, ready, half}
 use Rattle.records.specs.Table.{tests, refusal, takes, isReport, afterwards}
 use Rattle.records.specs.States.{leftBy}
@@ -50,6 +50,7 @@ carriedOut (size n x z) a = completed (takes (size n x z) a)
 carriedOut (row p r) a = completed (takes (row p r) a)
 carriedOut (add u k) a = Taken
 carriedOut (report budget limit) a = reportOf budget limit a
+carriedOut (encodes k) a = Taken
 
 abbrev pub answerOf : Option Refusal → Record → History → Answer
 answerOf (some n) r a = Refused n
@@ -90,6 +91,7 @@ LeftBy (size n x z) a old new = new ≡ old
 LeftBy (row p r) a old new = RowIn r (rowsIn a) old new
 LeftBy (add u k) a old new = ShotOf (takes (add u k) a) old new
 LeftBy (report budget limit) a old new = ShotOf a old new
+LeftBy (encodes k) a old new = new ≡ old
 
 -- No refusal writes to a lent list.
 abbrev pub Left : Option Refusal → Record → History → Lists → Lists → Type 0
@@ -109,6 +111,7 @@ WrittenBy (size n x z) a old new = new ≡ old
 WrittenBy (row p r) a old new = new ≡ old
 WrittenBy (add u k) a old new = new ≡ old
 WrittenBy (report budget limit) a old new = Shown budget limit a old new
+WrittenBy (encodes k) a old new = new ≡ old
 
 abbrev pub Written : Option Refusal → Record → History → Six → Six → Type 0
 Written (some n) r a old new = new ≡ old
@@ -123,6 +126,7 @@ Unworked none (size n x z) old new = new ≡ old
 Unworked none (row p r) old new = new ≡ old
 Unworked none (add u k) old new = new ≡ old
 Unworked none (report budget limit) old new = length new ≡ length old
+Unworked none (encodes k) old new = new ≡ old
 
 ----------------------------------------------------------------------
 -- The promise
@@ -149,12 +153,13 @@ pub record KeptLengths (old new : Lent) : Type 0 where
   pub x : SameLengths (old .six .x) (new .six .x)
   pub z : SameLengths (old .six .z) (new .six .z)
 
--- The state after a refusal: where the table says that nothing changed, it is the state handed in.
-abbrev pub Says : Record → State → Reply → Type 0
-Says w st r = (n : Refusal) → r .answer ≡ Refused n → r .state ≡ leftBy n (isReport w) st
+-- The state after a refusal: where the table says that nothing changed, it is the state handed in. After a kind 8 that agrees it is that too.
+pub record Says (w : Record) (st : State) (r : Reply) : Type 0 where
+  pub refused : (n : Refusal) → r .answer ≡ Refused n → r .state ≡ leftBy n (isReport w) st
+  pub agreed : (k : ℕ) → w ≡ encodes k → r .answer ≡ Taken → r .state ≡ st
 
--- For every input the lists keep their lengths, the six lists what is past n, and a refusal writes no lent list and leaves the state that the table
--- says; and for whatever code and shot the state and the lists hold, the answer, every lent element and the code and shot afterwards are the
+-- For every input the lists keep their lengths, the six lists what is past n, a refusal writes no lent list, and it and a kind 8 that agrees leave the
+-- state that the table says; and for whatever code and shot the state and the lists hold, the answer, every lent element and the code and shot afterwards are the
 -- table's. Over altered lists or an altered state nothing else is promised.
 pub record Promised (w : Record) (st : State) (old new : Lent) (r : Reply) : Type 0 where
   pub lengths : KeptLengths old new

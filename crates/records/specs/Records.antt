@@ -1,4 +1,4 @@
--- Records (document 01, "Records"; document 02, request a): one byte of kind, then a body whose length the kind fixes.
+-- Records (document 01, "Records"; document 02, requests a and i): one byte of kind, then a body whose length the kind fixes.
 --   Pauli       X or Z: the kind of a row, and of a half
 --   Set         the sets of a shot: the lost qubits, the lit rows and the unread rows of a kind
 --   Kind        the kinds of record
@@ -29,9 +29,9 @@ pub data Set : Type 0 where
   unread : Pauli → Set
 
 -- 1: sizes. 32 + w: an X row of w qubits; 64 + w: a Z row. 2: a lost qubit. 3: a lit Z row. 4: a lit X row. 5: decode. 6: an unread Z row. 7: an
--- unread X row.
+-- unread X row. 8: the logical qubits, tested.
 pub data Kind : Type 0 where
-  sizes decode : Kind
+  sizes decode logical : Kind
   rowOf : Pauli → ℕ → Kind
   member : Set → Kind
 
@@ -47,13 +47,15 @@ kindOf b =
     (cond (eqb b 5) (some decode)
     (cond (eqb b 6) (some (member (unread Z)))
     (cond (eqb b 7) (some (member (unread X)))
+    (cond (eqb b 8) (some logical)
     (cond (between 33 48 b) (some (rowOf X (b - 32)))
     (cond (between 65 80 b) (some (rowOf Z (b - 64)))
-    none))))))))
+    none)))))))))
 
 abbrev pub bodyOf : Kind → ℕ
 bodyOf sizes = 6
 bodyOf decode = 3
+bodyOf logical = 2
 bodyOf (rowOf p w) = 2 * w
 bodyOf (member s) = 2
 
@@ -75,10 +77,12 @@ pub data Record : Type 0 where
   row : Pauli → Row → Record
   add : Set → ℕ → Record
   report : ℕ → ℕ → Record
+  encodes : ℕ → Record
 
 abbrev pub read : List ℕ → Kind → Record
 read bytes sizes = size (number bytes 1) (number bytes 3) (number bytes 5)
 read bytes decode = report (getD bytes 1 0) (number bytes 2)
+read bytes logical = encodes (number bytes 1)
 read bytes (rowOf p w) = row p (numbers bytes 1 w)
 read bytes (member s) = add s (number bytes 1)
 

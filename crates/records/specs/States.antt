@@ -11,7 +11,7 @@ use Rattle.records.specs.declared.Phase.{Phase}
 use Rattle.records.specs.declared.Phase.the-variants.{Empty, Loading, Ready}
 use Rattle.records.specs.declared.State.{State}
 use Rattle.records.specs.declared.Refusal.{Refusal}
-use Rattle.records.specs.declared.Refusal.the-variants.{Unknown, Length, Size, Place, Clash, Codeless, Range, Twice, Spoiled, Short}
+use Rattle.records.specs.declared.Refusal.the-variants.{Unknown, Length, Size, Place, Clash, Codeless, Range, Twice, Spoiled, Short, Encoded}
 use Rattle.records.specs.declared.Answer.the-variants.{Refused}
 use Rattle.records.specs.declared.Reply.{Reply}
 
@@ -48,6 +48,7 @@ leftBy Range decode st = spoiledOf st
 leftBy Twice decode st = spoiledOf st
 leftBy Spoiled decode st = endedOf st
 leftBy Short decode st = cond decode (endedOf st) st
+leftBy Encoded decode st = droppedOf st
 
 abbrev pub saying : Refusal → Bool → State → Reply
 saying n decode st = record { state = leftBy n decode st; answer = Refused n }

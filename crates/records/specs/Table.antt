@@ -1,5 +1,6 @@
--- The refusals (document 01, "Records", the table).
+-- The refusals (document 01, "Records", the table; document 02, request i).
 --   refusalNumber  the number of a refusal
+--   encodes?       whether a code's rows encode so many qubits
 --   tests          the table's column "When", for each kind of record
 --   refusal        the lowest number that applies
 --   Numbered       the same by the numbers: the refusal's test passes, and no refusal of a lower number has one that does
@@ -10,17 +11,18 @@ use mathlib.Core.Path.{_≡_}
 use mathlib.Core.Bool.{Bool, true, false, not, _&&_, _||_, cond}
 use mathlib.Core.Option.{Option, none, some}
 use mathlib.Core.List.{List, [], _∷_, List·Memᴰ}
-use Prim.Native.Nat.{ℕ, _≤_}
+use Prim.Native.Nat.{ℕ, _+_, _≤_}
 use lib.Dec.{eqb, leb, ltb}
 use lib.ListN.{length}
 use Rattle.binary.specs.Meaning.{Row, commute?}
+use Rattle.binary.specs.Rank.{rank}
 use Rattle.code.specs.Tests.{ascending?}
 use Rattle.records.specs.declared.Refusal.{Refusal}
-use Rattle.records.specs.declared.Refusal.the-variants.{Unknown, Length, Size, Place, Clash, Codeless, Range, Twice, Spoiled, Short}
-use Rattle.records.specs.Records.{Pauli, X, Z, Record, unknown, wrong, size, row, add, report}
+use Rattle.records.specs.declared.Refusal.the-variants.{Unknown, Length, Size, Place, Clash, Codeless, Range, Twice, Spoiled, Short, Encoded}
+use Rattle.records.specs.Records.{Pauli, X, Z, Record, unknown, wrong, size, row, add, report, encodes}
 use Rattle.records.specs.History.{Code, Shot, History, empty, loading, ready, sizesOf, domainOf, sizeOf, already, onShot, joined, spoil, endShot, loaded, addRow}
 
--- 10 is not used.
+-- 10 and 13 to 16 are not used.
 abbrev pub refusalNumber : Refusal → ℕ
 refusalNumber Unknown = 1
 refusalNumber Length = 2
@@ -33,6 +35,7 @@ refusalNumber Range = 8
 refusalNumber Twice = 9
 refusalNumber Spoiled = 11
 refusalNumber Short = 12
+refusalNumber Encoded = 17
 
 ----------------------------------------------------------------------
 -- When
@@ -70,6 +73,10 @@ ofShot f empty = false
 ofShot f (loading s xs zs) = false
 ofShot f (ready c s) = f c s
 
+-- k is n minus the rank of the X rows minus the rank of the Z rows: the three together are n.
+unfoldable pub encodes? : ℕ → Code → Bool
+encodes? k c = eqb (k + rank (c .n) (c .xs) + rank (c .n) (c .zs)) (c .n)
+
 -- The refusals that a record may meet, each with its test, by number. short: a list of code, shot or work is below its least length.
 -- six n: one of the six lists of a decode is too short for n qubits; they count at kind 5 only. 6 and 9 read the lists, so neither is tried where one is short.
 abbrev pub tests : Bool → (ℕ → Bool) → Record → History → List (Refusal × Bool)
@@ -84,6 +91,7 @@ tests short six (add u k) a =
     ∷ (Short, short) ∷ []
 tests short six (report budget limit) a =
     (Codeless, not (complete a)) ∷ (Spoiled, ofShot (λ c s. s .spoiled) a) ∷ (Short, short || ofShot (λ c s. six (c .n)) a) ∷ []
+tests short six (encodes k) a = (Codeless, not (complete a)) ∷ (Short, short) ∷ (Encoded, ofShot (λ c s. not (encodes? k c)) a) ∷ []
 
 -- The first whose test passes.
 abbrev pub lowest : List (Refusal × Bool) → Option Refusal
@@ -125,6 +133,7 @@ isReport (size n x z) = false
 isReport (row p r) = false
 isReport (add u k) = false
 isReport (report budget limit) = true
+isReport (encodes k) = false
 
 abbrev pub leaves : Refusal → Record → History → History
 leaves Unknown r a = spoil a
@@ -138,11 +147,12 @@ leaves Range r a = spoil a
 leaves Twice r a = spoil a
 leaves Spoiled r a = endShot a
 leaves Short r a = cond (isReport r) (endShot a) a
+leaves Encoded r a = empty
 
 ----------------------------------------------------------------------
 -- Carried out
 
--- Kind 1 drops any code and shot and starts loading. Kind 5 leaves an empty shot.
+-- Kind 1 drops any code and shot and starts loading. Kind 5 leaves an empty shot. Kind 8, where it agrees, changes nothing, in an open shot too.
 abbrev pub takes : Record → History → History
 takes unknown a = a
 takes wrong a = a
@@ -150,6 +160,7 @@ takes (size n x z) a = loaded (record { n = n; x = x; z = z }) [] []
 takes (row p r) a = addRow p r a
 takes (add u k) a = onShot (joined u k) a
 takes (report budget limit) a = endShot a
+takes (encodes k) a = a
 
 abbrev pub afterwards : Option Refusal → Record → History → History
 afterwards (some n) r a = leaves n r a

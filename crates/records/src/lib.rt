@@ -2,7 +2,7 @@
 use machine::HalfReport;
 
 // The version of records, lists and structs, one more whenever one of them changes: a header and an archive tell theirs.
-pub const VERSION: u16 = 4;
+pub const VERSION: u16 = 5;
 
 // Why a record is refused (document 01, the table).
 pub enum Refusal {
@@ -17,6 +17,7 @@ pub enum Refusal {
     Twice,
     Spoiled,
     Short,
+    Encoded,
 }
 
 // A code's sizes: qubits, X rows, Z rows.

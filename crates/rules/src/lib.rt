@@ -24,6 +24,7 @@ pub fn refusal_number(r: Refusal) -> u8
         Refusal::Twice => 9,
         Refusal::Spoiled => 11,
         Refusal::Short => 12,
+        Refusal::Encoded => 17,
     }
 }
 

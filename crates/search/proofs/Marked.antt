@@ -93,6 +93,7 @@ not-marked n rows lost work marks b e f =
       work-size = refl;
       size = refl;
       rest = λ k h. refl;
+      few = λ c f. let z : _≡_ {A = ℕ} 0 1 = cc in absurd (omega arith);
       made = λ t. never (e ∙ t) (not-true b f);
       refused = λ _. (refl, refl, refl);
     }
@@ -123,6 +124,7 @@ module _ (n rows w : ℕ) (lost work marks m₁ m₂ m₃ marks′ : List ℕ) (
         work-size = d .long ∙ b .long ∙ a .long;
         size = d .size;
         rest = d .kept;
+        few = λ c f. let z : all ≡ c .all = cc in omega (arith, d .within);
         made = λ _. (top, all, refl, rw (← wide) searched);
         refused = λ f. never t f;
       }

@@ -11,6 +11,7 @@ use lib.ListN.{length, getD}
 use Rattle.binary.specs.Meaning.{Row, Below, fixed?}
 use Rattle.binary.specs.Words.{listed}
 use Rattle.packing.specs.Packed.{wordsFor, Packed}
+use Rattle.search.specs.declared.Cleared.{Cleared}
 use Rattle.search.specs.declared.Search.{Search}
 use Rattle.search.specs.declared.Search.the-variants.{Short, Made}
 use Rattle.search.specs.Route.{known, route}
@@ -35,6 +36,7 @@ pub record Marked (n rows : ℕ) (lost work marks work′ marks′ : List ℕ) (
   pub work-size : length work′ ≡ length work
   pub size : length marks′ ≡ length marks
   pub rest : (k : ℕ) → n ≤ k → getD marks′ k 0 ≡ getD marks k 0
+  pub few : (c : Cleared) → r ≡ Made c → c .all ≤ rows
   pub made : enough n rows lost work marks ≡ true → (before all : ℕ) × (r ≡ Made (record { known = before; all = all }))
       × ((rs : List Row) → length rs ≡ rows → Packed n (wordsFor n) rs work → Below n rs → Searched n rs lost marks work′ marks′ before all)
   pub refused : enough n rows lost work marks ≡ false → (r ≡ Short) × (work′ ≡ work) × (marks′ ≡ marks)

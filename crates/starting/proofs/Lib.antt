@@ -1,4 +1,3 @@
 pub mod ListFills
-pub mod Packing
 pub mod Marks
 pub mod Ways

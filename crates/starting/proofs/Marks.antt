@@ -21,8 +21,8 @@ use Rattle.code.proofs.Order.{rows-below}
 use Rattle.machine.specs.Machine.{isOpen, startMark}
 use Rattle.machine.specs.Lists.{view}
 use Rattle.starting.specs.Fills.{openMark}
-use Rattle.starting.specs.Starting.{PackedFrom}
-use Rattle.starting.proofs.Packing.{rows-count}
+use Rattle.packing.specs.PackedRows.{RowsPut}
+use Rattle.packing.proofs.PackedRows.{rows-count}
 
 pub listed-below : (n : ℕ) (lost : List ℕ) (q : ℕ) → listed n lost q ≡ true → q < n
 unfolding listed
@@ -58,7 +58,7 @@ module _ (n : ℕ) (lost marks : List ℕ) where
 
 -- The fixed qubits marked where every lost qubit is open.
 module _ (n : ℕ) (flat ends lost : List ℕ) (other others : ℕ) (marks marks′ work work₁ work₂ : List ℕ) (r : Search)
-    (packed : PackedFrom n flat ends other others work work₁) (fixes : Marked n others lost work₁ marks work₂ marks′ r) where
+    (packed : RowsPut n flat ends other others work work₁) (fixes : Marked n others lost work₁ marks work₂ marks′ r) where
   abbrev rs : List Row
   rs = rowsFrom flat ends other others
 

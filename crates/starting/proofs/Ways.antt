@@ -31,7 +31,8 @@ use Rattle.peeling.specs.Peeling.{Peels, Ready}
 use Rattle.search.specs.declared.Search.{Search}
 use Rattle.search.specs.Marked.{Marked}
 use Rattle.starting.specs.Fills.{Filled, openMark}
-use Rattle.starting.specs.Starting.{PackedFrom, Keeps, Saves, Restores, PeeledFirst, Searched, Begun, fits?, fitting, Starts}
+use Rattle.packing.specs.PackedRows.{RowsPut}
+use Rattle.starting.specs.Starting.{Keeps, Saves, Restores, PeeledFirst, Searched, Begun, fits?, fitting, Starts}
 use Rattle.starting.proofs.Marks.{listed-below, open-marks, open-lost, long-enough, fixed-marks}
 
 ----------------------------------------------------------------------
@@ -166,7 +167,7 @@ module _ (n : ℕ) (c : RowLists) (lost work work₁ work₂ work₃ marks marks
 
 module _ (n : ℕ) (c : RowLists) (lost : List ℕ) (other others : ℕ) (work work₁ work₂ work₃ marks marks′ : List ℕ) (r : Search) (size : n ≤ 1024) (many : others ≤ 512)
     (words : 10240 ≤ length work) (long : n ≤ length lost) (room : n ≤ length marks)
-    (packed : PackedFrom n (c .flat) (c .ends) other others work work₁) (fixes : Marked n others lost work₁ marks work₂ marks′ r)
+    (packed : RowsPut n (c .flat) (c .ends) other others work work₁) (fixes : Marked n others lost work₁ marks work₂ marks′ r)
     (filled : Fills n c marks′ work₂ work₃) where
   pub searched : Searched n c lost other others work work₃ marks marks′
   searched =

@@ -1,5 +1,4 @@
 -- The start of a half in the lists.
---   PackedFrom   the work list holds the other kind's rows, packed
 --   fixedIn      the fixed qubits, of the other kind's rows in the lists
 --   Keeps        what is kept of the half's own rows is right over the marks
 --   Saves        what is kept of the rows copied, and back: Restores
@@ -15,7 +14,6 @@ use lib.Dec.{leb}
 use lib.ListN.{length, getD}
 use Rattle.binary.specs.Meaning.{Qubits, All, Commute, fixed?}
 use Rattle.binary.specs.Words.{listed}
-use Rattle.packing.specs.Packed.{wordsFor, Packed}
 use Rattle.code.specs.Lists.{rowsFrom}
 use Rattle.code.specs.Tests.{Ascending}
 use Rattle.machine.specs.Machine.{isOpen, startMark}
@@ -24,10 +22,6 @@ use Rattle.machine.specs.Peeling.{peelsAway}
 use Rattle.scans.specs.Rows.{RowLists, rowChecks, GoodRows}
 use Rattle.kept.specs.Kept.{Kept, RowsOn}
 use Rattle.starting.specs.Fills.{Filled, openMark}
-
-pub record PackedFrom (n : ℕ) (flat ends : List ℕ) (other others : ℕ) (work work′ : List ℕ) : Type 0 where
-  pub long : length work′ ≡ length work
-  pub packed : Packed n (wordsFor n) (rowsFrom flat ends other others) work′
 
 abbrev pub fixedIn : ℕ → RowLists → List ℕ → ℕ → ℕ → Qubits
 fixedIn n c lost other others = fixed? n (rowsFrom (c .flat) (c .ends) other others) (listed n lost)

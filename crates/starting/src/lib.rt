@@ -4,32 +4,8 @@ ghost use mathlib.Core.Path.{_≡_};
 ghost use Prim.Native.Nat.{_+_, _≤_};
 ghost use lib.ListN.{length};
 ghost use Rattle.starting.specs.Fills.{Filled, openMark};
-ghost use Rattle.starting.specs.Starting.{PackedFrom, Saves, Restores, PeeledFirst, Searched, fits?, Starts};
-use code::Row;
+ghost use Rattle.starting.specs.Starting.{Saves, Restores, PeeledFirst, Searched, fits?, Starts};
 use code::Rows;
-
-// A number as an index.
-fn index(x: u16) -> usize
-    ensures { λ r. ⌜ r ≡ x ⌝ }
-{
-    x as usize
-}
-
-// Packs the rows into the work list, from its start.
-fn pack_rows(n: u16, flat: &[u16], ends: &[u16], rows: Rows, work: &mut [u64])
-    requires { ⌜ (n ≤ 1024) × (rows .count ≤ 512) × (rows .first .0 ≤ 512) × (8192 ≤ length (now work)) ⌝ }
-    ensures { λ _. ⌜ PackedFrom n (now (flat .entry)) (now (ends .entry)) (rows .first .0) (rows .count) (now (work .entry)) (now (work .exit)) ⌝ }
-{
-    let words = packing::words_for(n);
-    let first = rows.first;
-    let count = rows.count;
-    let mut i: u16 = 0;
-    while i < count {
-        let row = code::row_at(flat, ends, Row(first.0 + i));
-        packing::put_row(work, words, index(i), row);
-        i += 1;
-    }
-}
 
 // Each lost qubit is marked open, each other one not lost.
 fn start_marks(n: usize, lost: &[u8], marks: &mut [u8])
@@ -106,7 +82,7 @@ fn search_fixed(
     requires { ⌜ (n ≤ 1024) × (others .count ≤ 512) × (others .first .0 ≤ 512) × (10240 ≤ length (now work)) × (n ≤ length (now lost)) × (n ≤ length (now marks)) ⌝ }
     ensures { λ _. ⌜ Searched n (record { flat = now (flat .entry); ends = now (ends .entry); lit = now (lit .entry); first = own .first .0; count = own .count }) (now (lost .entry)) (others .first .0) (others .count) (now (work .entry)) (now (work .exit)) (now (marks .entry)) (now (marks .exit)) ⌝ }
 {
-    pack_rows(n, flat, ends, others, work);
+    packing::pack_rows(n, flat, ends, others, work);
     search::mark_fixed(n, others.count as usize, lost, work, marks);
     filling::fill(n, flat, ends, lit, own, marks, work);
 }

@@ -92,6 +92,7 @@ fn left(st: State, why: Refusal, decode: bool) -> State
         Refusal::Twice => spoiled(st),
         Refusal::Spoiled => ended(st),
         Refusal::Short => after_short(st, decode),
+        Refusal::Encoded => dropped(st),
     }
 }
 

@@ -1,4 +1,7 @@
 -- `starting::search_fixed` meets its contract. Assumes nothing.
+use mathlib.Core.Path.{_∙_}
+use native.Mathlib.Omega.{arith}
+use Rattle.packing.proofs.PackedRows.{room-for-in}
 use Rattle.starting.proofs.Ways.{searched}
 use borrow.Author.Needs.{needs}
 use Rattle.starting.proofs.search_fixed.Statement.{statement}
@@ -26,7 +29,8 @@ returns : tie.Need-returns
 returns c =
     let start = c .before .before .before .before .before .before .before .before .before .before .before .before .before .before .before .before .before .before .before .before .before .before .before in
     let p = start .pre in
-    searched _ (record { flat = start .args .flat .now; ends = start .args .ends .now; lit = start .args .lit .now; first = start .args .own .first .0; count = start .args .own .count }) _ _ _ _ _ _ _ _ _ _ (p .0) (p .1) (p .3) (p .4) (p .5) (c .before .before .before .before .before .before .before .before .before .before .before .before .before .before .before .pack-rows .ensures) (c .before .before .before .before .before .before .before .before .before .mark-fixed .ensures) (c .before .before .fill .ensures)
+    let packed = c .before .before .before .before .before .before .before .before .before .before .before .before .before .before .before .pack-rows .ensures in
+    searched _ (record { flat = start .args .flat .now; ends = start .args .ends .now; lit = start .args .lit .now; first = start .args .own .first .0; count = start .args .own .count }) _ _ _ _ _ _ _ _ _ _ (p .0) (p .1) (p .3) (p .4) (p .5) (packed .put (packed .answer ∙ room-for-in _ _ _ _ (p .0) (p .1) (p .2) (omega (arith, p .3)))) (c .before .before .before .before .before .before .before .before .before .mark-fixed .ensures) (c .before .before .fill .ensures)
 
 pub search-fixed-spec : {M : Type 1} → statement M
 search-fixed-spec =

@@ -66,6 +66,12 @@ enum-told-11 c = search needs
 after-short-requires : tie.Need-after-short-requires
 after-short-requires c κs = search needs
 
+enum-told-12 : tie.Need-enum-told-12
+enum-told-12 c = search needs
+
+dropped-requires-5 : tie.Need-dropped-requires-5
+dropped-requires-5 c κs = search needs
+
 returns : tie.Need-returns
 returns c = rw (c .before .enum-told .given .1) (c .spoiled .ensures)
 
@@ -99,6 +105,9 @@ returns-10 c = rw (c .before .enum-told10 .given .1) (c .ended .ensures)
 returns-11 : tie.Need-returns-11
 returns-11 c = rw (c .before .enum-told11 .given .1) (c .after-short .ensures)
 
+returns-12 : tie.Need-returns-12
+returns-12 c = rw (c .before .enum-told12 .given .1) (c .dropped5 .ensures)
+
 pub left-spec : {M : Type 1} → statement M
 left-spec =
     tie.close
@@ -124,6 +133,8 @@ left-spec =
     ended-requires
     enum-told-11
     after-short-requires
+    enum-told-12
+    dropped-requires-5
     returns
     returns-2
     returns-3
@@ -134,4 +145,5 @@ left-spec =
     returns-8
     returns-9
     returns-10
-    returns-11)
+    returns-11
+    returns-12)

@@ -1,7 +1,7 @@
 -- `reading::shapes::named` meets its contract. Assumes nothing.
 use Prim.Native.Nat.{ℕ, _+_, _-_, _≤_}
 use native.Mathlib.Omega.{arith}
-use Rattle.records.proofs.KindBytes.{NoNumber, kind-size, kind-lost, kind-lit-z, kind-lit-x, kind-decode, kind-unread-z, kind-unread-x, kind-low, kind-row-x, kind-mid, kind-row-z, kind-high}
+use Rattle.records.proofs.KindBytes.{NoNumber, kind-size, kind-lost, kind-lit-z, kind-lit-x, kind-decode, kind-unread-z, kind-unread-x, kind-logical, kind-low, kind-row-x, kind-mid, kind-row-z, kind-high}
 use borrow.Author.Needs.{needs}
 use Rattle.reading.proofs.shapes.named.Statement.{statement}
 use Rattle.reading.proofs.shapes.named.Tie as tie
@@ -31,35 +31,39 @@ returns-7 : tie.Need-returns-7
 returns-7 c = (kind-unread-x _ (c .if7 .taken), omega arith)
 
 returns-8 : tie.Need-returns-8
-returns-8 c =
+returns-8 c = (kind-logical _ (c .if8 .taken), omega arith)
+
+returns-9 : tie.Need-returns-9
+returns-9 c =
     let none : NoNumber _ = record {
-      n1 = c .before .before .before .before .before .before .before .if1 .left;
-      n2 = c .before .before .before .before .before .before .if2 .left;
-      n3 = c .before .before .before .before .before .if3 .left;
-      n4 = c .before .before .before .before .if4 .left;
-      n5 = c .before .before .before .if5 .left;
-      n6 = c .before .before .if6 .left;
-      n7 = c .before .if7 .left;
+      n1 = c .before .before .before .before .before .before .before .before .if1 .left;
+      n2 = c .before .before .before .before .before .before .before .if2 .left;
+      n3 = c .before .before .before .before .before .before .if3 .left;
+      n4 = c .before .before .before .before .before .if4 .left;
+      n5 = c .before .before .before .before .if5 .left;
+      n6 = c .before .before .before .if6 .left;
+      n7 = c .before .before .if7 .left;
+      n8 = c .before .if8 .left;
     } in
     (kind-low _ none (omega arith), omega arith)
 
 sub-t3 : tie.Need-sub-t3
 sub-t3 c = search needs
 
-returns-9 : tie.Need-returns-9
-returns-9 c = (kind-row-x _ (omega arith) (omega arith), width _ 32 (omega arith))
-
 returns-10 : tie.Need-returns-10
-returns-10 c = (kind-mid _ (omega arith) (omega arith), omega arith)
+returns-10 c = (kind-row-x _ (omega arith) (omega arith), width _ 32 (omega arith))
+
+returns-11 : tie.Need-returns-11
+returns-11 c = (kind-mid _ (omega arith) (omega arith), omega arith)
 
 sub-t4 : tie.Need-sub-t4
 sub-t4 c = search needs
 
-returns-11 : tie.Need-returns-11
-returns-11 c = (kind-row-z _ (omega arith) (omega arith), width _ 64 (omega arith))
-
 returns-12 : tie.Need-returns-12
-returns-12 c = (kind-high _ (omega arith), omega arith)
+returns-12 c = (kind-row-z _ (omega arith) (omega arith), width _ 64 (omega arith))
+
+returns-13 : tie.Need-returns-13
+returns-13 c = (kind-high _ (omega arith), omega arith)
 
 pub named-spec : {M : Type 1} → statement M
 named-spec =
@@ -73,9 +77,10 @@ named-spec =
     returns-6
     returns-7
     returns-8
-    sub-t3
     returns-9
+    sub-t3
     returns-10
-    sub-t4
     returns-11
-    returns-12)
+    sub-t4
+    returns-12
+    returns-13)

@@ -1,16 +1,16 @@
--- `starting::pack_rows` meets its contract. Assumes nothing.
+-- `packing::put_rows` meets its contract. Assumes nothing.
 use mathlib.Core.Path.{_∙_}
 use Prim.Native.Nat.{_-_, _≤_}
 use native.Mathlib.Omega.{arith}
 use lib.ListN.{length}
 use borrow.Author.Needs.{needs}
 use mathlib.Core.Path.{_≡_}
 use Rattle.packing.specs.Packed.{wordsFor, Packed}
 use Rattle.packing.proofs.Put.{packed-none}
 use Rattle.code.specs.Lists.{rowsFrom}
-use Rattle.starting.proofs.Packing.{pack-more, pack-end}
-use Rattle.starting.proofs.pack_rows.Statement.{statement}
-use Rattle.starting.proofs.pack_rows.Tie as tie
+use Rattle.packing.proofs.PackedRows.{pack-more, pack-end}
+use Rattle.packing.proofs.put_rows.Statement.{statement}
+use Rattle.packing.proofs.put_rows.Tie as tie
 
 abbrev Inv-loop : tie.InvT-loop
 Inv-loop n flat ends work₀ words first count i₀ work i =
@@ -59,8 +59,8 @@ same-length c = c .before .loop .inv .1
 returns : tie.Need-returns Inv-loop μ-loop
 returns c = pack-end _ _ _ _ _ (c .before .loop .i) _ _ (c .before .loop .inv .1) (omega arith) (c .before .loop .inv .2)
 
-pub pack-rows-spec : {M : Type 1} → statement M
-pack-rows-spec =
+pub put-rows-spec : {M : Type 1} → statement M
+put-rows-spec =
     tie.close
     (tie.spec
     Inv-loop

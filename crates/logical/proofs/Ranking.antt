@@ -1,0 +1,73 @@
+-- The rank of rows, by the search with every column lost. Assumes nothing.
+use mathlib.Core.Path.{_≡_, refl, sym, ap, ap₂, _∙_, fun-ext}
+use mathlib.Core.Bool.{Bool, true, false, _&&_}
+use mathlib.Core.Logic.{⊎-elim}
+use mathlib.Core.List.{List}
+use Prim.Native.Nat.{ℕ, zero, suc, _+_, _≤_, _<_}
+use native.Mathlib.Omega.{arith}
+use borrow.Author.Tests.{lt-ltb, le-ltb, le-leb, eq-eqb}
+use lib.Dec.{eqb, ltb}
+use lib.ListN.{length, getD}
+use Rattle.binary.specs.Meaning.{Qubits, Row, Below}
+use Rattle.binary.specs.Rank.{rank}
+use Rattle.binary.specs.Words.{listed}
+use Rattle.binary.proofs.WordBits.{order}
+use Rattle.code.specs.Lists.{rowsFrom}
+use Rattle.packing.specs.PackedRows.{RowsPut, PackedFrom}
+use Rattle.packing.proofs.PackedRows.{rows-count, room-for-in}
+use Rattle.search.specs.declared.Cleared.{Cleared}
+use Rattle.search.specs.declared.Search.{Search}
+use Rattle.search.specs.declared.Search.the-variants.{Short, Made}
+use Rattle.search.specs.Route.{route}
+use Rattle.search.specs.Marked.{enough, columnsOf, Marked}
+use Rattle.search.specs.Ranks.{ClearedRank}
+use Rattle.search.proofs.Ranks.{cleared-rank}
+use Rattle.records.specs.declared.Sizes.{Sizes}
+use Rattle.logical.specs.Logical.{Few, RankOf, RanksOf}
+
+columns-count : (work : List ℕ) (k : ℕ) → length (columnsOf work k) ≡ k
+columns-count work zero = refl
+columns-count work (suc k) = ap suc (columns-count work k)
+
+-- Every qubit is lost.
+all-listed : (n : ℕ) (lost : List ℕ) → n ≤ 1024 → ((q : ℕ) → q < 1024 → getD lost q 0 ≡ 1) → listed n lost ≡ (λ q. ltb q n)
+unfolding listed
+all-listed n lost small ones =
+    fun-ext (λ q. ⊎-elim (λ (l : q < n). rw (lt-ltb q n l, ones q (omega arith))) (λ (l : n ≤ q). rw (le-ltb q n l)) (order q n))
+
+module _ (n : ℕ) (flat ends : List ℕ) (first count : ℕ) (lost work work₁ work₂ marks marks′ : List ℕ) (b : Bool) (r : Search)
+    (fits : (n ≤ 1024) × (count ≤ 512) × (first ≤ 512)) (lost-long : length lost ≡ 1024) (ones : (q : ℕ) → q < 1024 → getD lost q 0 ≡ 1)
+    (work-long : length work ≡ 10240) (marks-long : length marks ≡ 1024)
+    (packs : PackedFrom n flat ends first count work work₁ b) (searches : Marked n count lost work₁ marks work₂ marks′ r) where
+  put : RowsPut n flat ends first count work work₁
+  put = packs .put (packs .answer ∙ room-for-in n first count (length work) (fits .0) (fits .1) (fits .2) (omega arith))
+
+  abbrev rs : List Row
+  rs = rowsFrom flat ends first count
+
+  long : enough n count lost work₁ marks ≡ true
+  unfolding enough
+  long =
+      let l = put .long in
+      rw (le-leb n 1024 (fits .0), le-leb count 512 (fits .1), le-leb 10240 (length work₁) (omega arith), le-leb n (length lost) (omega (arith, fits .0)), le-leb n (length marks) (omega (arith, fits .0)))
+
+  pub was-made : {C : Type 0} → r ≡ Short → C
+  was-made e = let m = searches .made long in let z : _≡_ {A = ℕ} 0 1 = cc in absurd (omega arith)
+
+  pub ranked : (c : Cleared) → r ≡ Made c → RankOf n flat ends first count (c .all)
+  unfolding ClearedRank
+  ranked c e =
+      record {
+        few = let f = searches .few c e in omega (arith, fits .1);
+        is = λ small.
+            let m = searches .made long in
+            let all : m .1 ≡ c .all = cc in
+            let s = m .3 rs (rows-count flat ends first count) (put .packed) small in
+            let cleared = ap length (s .taken ∙ ap (λ (l : Qubits). route n rs l .columns) (all-listed n lost (fits .0) ones)) in
+            sym all ∙ sym (columns-count work₂ (m .1)) ∙ cleared ∙ cleared-rank n rs small;
+      }
+
+pub both-ranked : (z : Sizes) (flat ends : List ℕ) (x-rank z-rank : ℕ) → RankOf (z .n) flat ends 0 (z .x) x-rank → RankOf (z .n) flat ends (z .x) (z .z) z-rank
+    → RanksOf z flat ends (x-rank + z-rank)
+both-ranked z flat ends x-rank z-rank a b =
+    record { few = omega (arith, a .few, b .few); are = λ c d. ap₂ _+_ (a .is c) (b .is d) }

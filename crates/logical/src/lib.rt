@@ -1,0 +1,70 @@
+// The record of logical qubits: whether the rows encode as many as it says.
+ghost use Prim.Native.Nat.{_≤_};
+ghost use Rattle.logical.specs.Logical.{Few, RankOf, RanksOf, Tests};
+use code::Row;
+use code::Rows;
+use records::Answer;
+use records::Refusal;
+use records::Reply;
+use records::Sizes;
+use records::State;
+use rules::codeless;
+use rules::in_range;
+use search::Search;
+use states::refused;
+
+// The rank of rows. Where every column is lost the search takes them all, and as many rows clear one as the rank says.
+fn rank(n: u16, flat: &[u16], ends: &[u16], rows: Rows) -> usize
+    requires { ⌜ (n ≤ 1024) × (rows .count ≤ 512) × (rows .first .0 ≤ 512) ⌝ }
+    ensures { λ r. ⌜ RankOf n (now (flat .entry)) (now (ends .entry)) (rows .first .0) (rows .count) r ⌝ }
+{
+    let lost = [1u8; 1024];
+    let mut work = [0u64; 10240];
+    let mut marks = [0u8; 1024];
+    packing::pack_rows(n, flat, ends, rows, &mut work);
+    let found = search::mark_fixed(n, rows.count as usize, &lost, &mut work, &mut marks);
+    let Search::Made(cleared) = found else {
+        return 0;
+    };
+    cleared.all
+}
+
+// The ranks of the X rows and of the Z rows, together.
+fn ranks(sizes: Sizes, flat: &[u16], ends: &[u16]) -> usize
+    requires { ⌜ Few sizes ⌝ }
+    ensures { λ r. ⌜ RanksOf sizes (now (flat .entry)) (now (ends .entry)) r ⌝ }
+{
+    let n = sizes.n;
+    let x = sizes.x;
+    let z = sizes.z;
+    let x_rows = Rows {
+        first: Row(0),
+        count: x,
+    };
+    let z_rows = Rows {
+        first: Row(x),
+        count: z,
+    };
+    rank(n, flat, ends, x_rows) + rank(n, flat, ends, z_rows)
+}
+
+// Whether the rows encode k qubits. short: one of the lists of code, shot and work is short. Sizes that are out of range stand in an altered state only.
+pub fn test(st: State, k: u16, flat: &[u16], ends: &[u16], short: bool) -> Reply
+    ensures { λ r. ⌜ Tests short k st (now (flat .entry)) (now (ends .entry)) r ⌝ }
+{
+    if codeless(st) {
+        return refused(st, Refusal::Codeless, false);
+    }
+    let sizes = st.sizes;
+    if short | !in_range(sizes.n, sizes.x, sizes.z) {
+        return refused(st, Refusal::Short, false);
+    }
+    let together = k as usize + ranks(sizes, flat, ends);
+    if together != sizes.n as usize {
+        return refused(st, Refusal::Encoded, false);
+    }
+    Reply {
+        state: st,
+        answer: Answer::Taken,
+    }
+}
