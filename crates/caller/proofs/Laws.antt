@@ -10,7 +10,7 @@ use Rattle.records.specs.declared.State.{State}
 use Rattle.records.specs.declared.Refusal.{Refusal}
 use Rattle.records.specs.declared.Answer.the-variants.{Decoded}
 use Rattle.records.specs.declared.Reply.{Reply}
-use Rattle.records.specs.Records.{Record, unknown, wrong, size, row, add, report, recordOf}
+use Rattle.records.specs.Records.{Record, unknown, wrong, size, row, add, report, encodes, recordOf}
 use Rattle.records.specs.History.{History, empty, loading, ready}
 use Rattle.records.specs.Table.{takes}
 use Rattle.records.specs.Lists.{Lent, shortSix}
@@ -41,6 +41,7 @@ decode-of none wrong a d e = never {b = true} refl cc
 decode-of none (size n x z) a d e = absurd (no-report (takes (size n x z) a) d e)
 decode-of none (row p r) a d e = absurd (no-report (takes (row p r) a) d e)
 decode-of none (add u k) a d e = never {b = true} refl cc
+decode-of none (encodes k) a d e = never {b = true} refl cc
 decode-of none (report budget limit) empty d e = never {b = true} refl cc
 decode-of none (report budget limit) (loading s xs zs) d e = never {b = true} refl cc
 decode-of none (report budget limit) (ready c s) d e = record { code = c; shot = s; budget = budget; limit = limit; held = refl; asked = refl }

@@ -26,11 +26,11 @@ use Rattle.records.specs.declared.Report.{Report}
 use Rattle.records.specs.declared.State.{State}
 use Rattle.records.specs.declared.Refusal.{Refusal}
 use Rattle.records.specs.declared.Answer.{Answer}
-use Rattle.records.specs.declared.Answer.the-variants.{Decoded}
-use Rattle.records.specs.Records.{Pauli, X, Z, lost, Record, report, recordOf}
+use Rattle.records.specs.declared.Answer.the-variants.{Taken, Decoded}
+use Rattle.records.specs.Records.{Pauli, X, Z, lost, Record, report, encodes, recordOf}
 use Rattle.records.specs.History.{Code, Shot, History, empty, ready, other, half}
 use Rattle.records.specs.Table.{tests, refusal, Numbered, NumberedLaw, afterwards}
-use Rattle.records.specs.Lists.{Lists, Six, shortLists, shortSix, marks, ShotIn, Holds, Represents}
+use Rattle.records.specs.Lists.{Lists, Six, Lent, shortLists, shortSix, marks, ShotIn, Holds, Represents}
 use Rattle.records.specs.Promise.{refusalAt, answerOf, Left, Written, Unworked}
 use Rattle.records.proofs.Numbers.{lowest-numbered}
 use Rattle.claim.specs.Calls.{Step, lent, Call, step, Keeps, stateLeft, listsLeft, Run, call, makes, past, Place, at, begins, stateAfter}
@@ -178,6 +178,33 @@ shown-as k p c s budget limit r v =
     }
 
 ----------------------------------------------------------------------
+-- A kind 8 that agrees
+
+-- A call that leaves state and lists as they were can be left out.
+without : (st : State) (l : Lists) (before after : List Call) (k : Call) → stateLeft (stateAfter st before) k ≡ stateAfter st before
+    → listsLeft (begins l before) k ≡ begins l before → Run st l (before ++ (k ∷ after)) → Run st l (before ++ after)
+without st l [] after k e f (call p run) = subst (λ (x : Lists). Run st x after) f (subst (λ (x : State). Run x (listsLeft l k) after) e run)
+without st l (j ∷ before) after k e f (call p run) = call p (without (stateLeft st j) (listsLeft l j) before after k e f run)
+
+untouched : (q : Option Refusal) (w : Record) (a : History) (j : ℕ) (x : Answer) (old new : Lent) → w ≡ encodes j → x ≡ Taken → x ≡ answerOf q w a
+    → Left q w a (old .lists) (new .lists) → Written q w a (old .six) (new .six) → Unworked q w (old .work) (new .work) → new ≡ old
+untouched (some n) w a j x old new e f g lists six work = let z : _≡_ {A = Bool} true false = cc in never refl z
+untouched none w a j x old new e f g lists six work =
+    let lists′ : new .lists ≡ old .lists = subst (λ (u : Record). Left none u a (old .lists) (new .lists)) e lists in
+    let six′ : new .six ≡ old .six = subst (λ (u : Record). Written none u a (old .six) (new .six)) e six in
+    let work′ : new .work ≡ old .work = subst (λ (u : Record). Unworked none u (old .work) (new .work)) e work in
+    λ t. record { lists = lists′ t; work = work′ t; six = six′ t }
+
+agreed : (k : Step) (p : Place (step k)) (j : ℕ) → recordOf (k .bytes) ≡ encodes j → k .reply .answer ≡ Taken
+    → (k .left ≡ lent (begins (p .lists) (p .before)) k) × Run (p .state) (p .lists) (p .before ++ p .after)
+agreed k p j e f =
+    let z = placed (step k) p in
+    let l = begins (p .lists) (p .before) in
+    let c = z .kept .carried (at p) (z .held) in
+    let same = untouched (refusalAt (recordOf (k .bytes)) (at p) (lent l k)) (recordOf (k .bytes)) (at p) j (k .reply .answer) (lent l k) (k .left) e f (c .answer) (c .lists) (c .six) (c .work) in
+    (same, without (p .state) (p .lists) (p .before) (p .after) (step k) (z .kept .says .agreed j e f) (ap (λ (x : Lent). x .lists) same) (p .run))
+
+----------------------------------------------------------------------
 -- The claim
 
 half-right : (h : Half) → Obeys h → (budget limit : ℕ) → HalfRight h budget limit (outcome h budget limit)
@@ -227,4 +254,5 @@ claim =
       before = λ k p c s budget limit r v read b.
           let unmarked : AllRead (ready c s) = subst AllRead (v .at) (past-read (p .lists) empty (p .before) read tt) in
           shown-as k p c s budget limit r v .same b ∙ half-read (half b c s) (λ i. ap (λ (f : ℕ → Bool). f i) (unmarked (other b))) budget limit;
+      agreed = agreed;
     }

@@ -9,8 +9,8 @@ use lib.ListN.{length}
 use Rattle.binary.specs.Meaning.{Row, All}
 use Rattle.records.specs.declared.Sizes.{Sizes}
 use Rattle.records.specs.declared.Refusal.{Refusal}
-use Rattle.records.specs.declared.Refusal.the-variants.{Unknown, Length, Size, Place, Clash, Codeless, Range, Twice, Spoiled, Short}
-use Rattle.records.specs.Records.{Pauli, X, Z, lost, lit, unread, Record, unknown, wrong, size, row, add, report, recordOf}
+use Rattle.records.specs.declared.Refusal.the-variants.{Unknown, Length, Size, Place, Clash, Codeless, Range, Twice, Spoiled, Short, Encoded}
+use Rattle.records.specs.Records.{Pauli, X, Z, lost, lit, unread, Record, unknown, wrong, size, row, add, report, encodes, recordOf}
 use Rattle.records.specs.History.{History, empty, loading, ready, emptyShot, spoil, endShot, joined, loaded}
 use Rattle.records.specs.Table.{isReport, leaves, takes, afterwards}
 use Rattle.records.specs.Lists.{Lists}
@@ -58,6 +58,7 @@ takes-read (add (lit X) k) read (ready c s) v = both (λ p. joined (lit X) k s .
 takes-read (add (lit Z) k) read (ready c s) v = both (λ p. joined (lit Z) k s .sets (unread p) ≡ (λ i. false)) (v X) (v Z)
 takes-read (add (unread p) k) read (ready c s) v = absurd (read p k refl)
 takes-read (report budget limit) read a v = ended-read a
+takes-read (encodes k) read a v = v
 
 short-read : (b : Bool) (a : History) → AllRead a → AllRead (cond b (endShot a) a)
 short-read true a v = ended-read a
@@ -75,6 +76,7 @@ leaves-read Range w a v = spoiled-read a v
 leaves-read Twice w a v = spoiled-read a v
 leaves-read Spoiled w a v = ended-read a
 leaves-read Short w a v = short-read (isReport w) a v
+leaves-read Encoded w a v = tt
 
 makes-read : (l : Lists) (a : History) (k : Call) → Read k → AllRead a → AllRead (makes l a k)
 makes-read l a (step k) read v = by (refusalAt (recordOf (k .bytes)) a (lent l k))

@@ -1,10 +1,12 @@
 -- Demands 1 to 3, one claim about whole lists of calls from a fresh start (document 00).
 --   Told       demand 1, of one record
 --   HalfRight  demands 2 and 3, of one half that a decode reports
---   Claim      every call in every run from a fresh start is so, and any two reported decodes of one code and shot agree as demand 3 says
+--   Claim      every call in every run from a fresh start is so, any two reported decodes of one code and shot agree as demand 3 says, and a kind 8 that
+--              agrees is as if it had not come
 use mathlib.Core.Path.{_≡_}
 use mathlib.Core.Bool.{true, false}
 use mathlib.Core.Logic.{_⊎_}
+use mathlib.Core.List.{_++_}
 use Prim.Native.Nat.{ℕ, _≤_}
 use Rattle.binary.specs.Meaning.{All}
 use Rattle.machine.specs.declared.Word.the-variants.{None}
@@ -17,13 +19,13 @@ use Rattle.machine.specs.Unread.{before}
 use Rattle.machine.specs.OneWord.{OneWord}
 use Rattle.machine.specs.Demands.{Verdict, Counted, Fillings, Classes, Reach}
 use Rattle.records.specs.declared.Report.{Report}
-use Rattle.records.specs.declared.Answer.the-variants.{Decoded}
-use Rattle.records.specs.Records.{Pauli, X, Z, report, recordOf}
+use Rattle.records.specs.declared.Answer.the-variants.{Taken, Decoded}
+use Rattle.records.specs.Records.{Pauli, X, Z, report, encodes, recordOf}
 use Rattle.records.specs.History.{Code, Shot, History, ready, half}
 use Rattle.records.specs.Table.{Numbered}
 use Rattle.records.specs.Lists.{Lists, Six, Represents}
 use Rattle.records.specs.Promise.{refusalAt, testsAt, answerOf, Left, Written, Unworked}
-use Rattle.claim.specs.Calls.{Step, lent, Call, step, stateLeft, listsLeft, makes, Place, at, begins, stateAfter, Read}
+use Rattle.claim.specs.Calls.{Step, lent, Call, step, stateLeft, listsLeft, Run, makes, Place, at, begins, stateAfter, Read}
 
 ----------------------------------------------------------------------
 -- One call
@@ -92,3 +94,7 @@ pub record Claim : Type 0 where
   -- Without records of kinds 6 and 7 before it, each half that a decode reports comes out as document 01 alone has it, every row read.
   pub before : (k : Step) (p : Place (step k)) (c : Code) (s : Shot) (budget limit : ℕ) (r : Report) → Reported (at p) k c s budget limit r
       → All Read (p .before) → (b : Pauli) → shows b c r k ≡ shown (c .n) (before (half b c s) budget limit)
+  -- A record of kind 8 that agrees leaves every list as it was, and the calls without it are a run too: each call after it, in the middle of a shot too,
+  -- is as if it had not come.
+  pub agreed : (k : Step) (p : Place (step k)) (j : ℕ) → recordOf (k .bytes) ≡ encodes j → k .reply .answer ≡ Taken
+      → (k .left ≡ lent (begins (p .lists) (p .before)) k) × Run (p .state) (p .lists) (p .before ++ p .after)

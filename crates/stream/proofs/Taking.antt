@@ -12,7 +12,7 @@ use Rattle.records.specs.declared.State.{State}
 use Rattle.records.specs.declared.Reply.{Reply}
 use Rattle.records.specs.declared.Refusal.{Refusal}
 use Rattle.records.specs.declared.Refusal.the-variants.{Length}
-use Rattle.records.specs.Records.{Pauli, pauli, Set, lost, lit, unread, Record, unknown, wrong, size, row, add, report, number, numbers, recordOf}
+use Rattle.records.specs.Records.{Pauli, pauli, Set, lost, lit, unread, Record, unknown, wrong, size, row, add, report, encodes, number, numbers, recordOf}
 use Rattle.records.specs.History.{History}
 use Rattle.records.specs.Table.{refusal, isReport}
 use Rattle.records.specs.Lists.{Lists, Six, Lent, held, lentOf, shortLists, shortSix}
@@ -23,8 +23,9 @@ use Rattle.records.proofs.Answers.{answered-refused, says-refused, promised}
 use Rattle.records.proofs.Range.{long-lists}
 use Rattle.loading.specs.Loading.{SizesTaken, RowTaken}
 use Rattle.readout.specs.Readout.{Adds}
+use Rattle.logical.specs.Logical.{Tests}
 use Rattle.reading.specs.declared.Shape.{Shape}
-use Rattle.reading.specs.declared.Shape.the-variants.{Unknown, Wrong, Size, Lose, Light, Unread, Decode}
+use Rattle.reading.specs.declared.Shape.the-variants.{Unknown, Wrong, Size, Lose, Light, Unread, Decode, Logical}
 use Rattle.reading.specs.Shapes.{decode?, RecordAs}
 use Rattle.stream.specs.Takes.{Takes}
 use Rattle.reading.proofs.Numbers.{numbers-length}
@@ -60,6 +61,10 @@ module _ (bytes : List ℕ) (s : Shape) (v : RecordAs bytes s) where
   unfolding RecordAs
   at-unread x e = subst (RecordAs bytes) e v
 
+  at-logical : s ≡ Logical → recordOf bytes ≡ encodes (number bytes 1)
+  unfolding RecordAs
+  at-logical e = subst (RecordAs bytes) e v
+
   at-unknown : s ≡ Unknown → recordOf bytes ≡ unknown
   unfolding RecordAs
   at-unknown e = subst (RecordAs bytes) e v
@@ -82,6 +87,7 @@ module _ (bytes : List ℕ) (s : Shape) (v : RecordAs bytes s) where
       by (Light x) u f = never f refl
       by (Unread x) u f = never f refl
       by Decode u f = u
+      by Logical u f = never f refl
 
   not-report : decode? s ≡ false → isReport (recordOf bytes) ≡ false
   unfolding RecordAs
@@ -96,6 +102,7 @@ module _ (bytes : List ℕ) (s : Shape) (v : RecordAs bytes s) where
       by (Light x) u f = rw u
       by (Unread x) u f = rw u
       by Decode u f = never refl f
+      by Logical u f = rw u
 
   ----------------------------------------------------------------------
   -- Any record but a decode
@@ -168,6 +175,14 @@ module _ (bytes : List ℕ) (s : Shape) (v : RecordAs bytes s) where
     pub take-add : (u : Set) → recordOf bytes ≡ add u (number bytes 1) → (k : ℕ) → k ≡ number bytes 1 → (shot′ : List ℕ) → Adds short u k st shot shot′ r
         → Takes short bytes st l (held flat ends shot′) r
     take-add u e k i = adds u k (e ∙ ap (add u) (sym i))
+
+    pub take-logical : s ≡ Logical → (k : ℕ) → k ≡ number bytes 1 → Tests short k st flat ends r → Takes short bytes st l l r
+    take-logical e k i d =
+        let w : recordOf bytes ≡ encodes k = at-logical e ∙ ap encodes (sym i) in
+        record {
+          keeps = record { flat = refl; ends = refl; shot = refl; refused = λ m i. refl; says = rw w (d .says) };
+          does = λ work six t. rw w (d .does six shot);
+        }
 
   ----------------------------------------------------------------------
   -- The promise

@@ -1,4 +1,4 @@
-// The records that load a code, and those of a shot.
+// The records that load a code, those of a shot, and the logical qubits, tested.
 ghost use mathlib.Core.Path.{_≡_};
 ghost use mathlib.Core.Bool.{false};
 ghost use Prim.Native.Nat.{_≤_};
@@ -66,5 +66,6 @@ pub fn take(
             readout::note_row(st, true, x, KindRow(number(bytes, 1)), shot, short)
         }
         Shape::Decode => refused(st, Refusal::Unknown, false),
+        Shape::Logical => logical::test(st, number(bytes, 1), flat, ends, short),
     }
 }

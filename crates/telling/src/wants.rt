@@ -165,6 +165,16 @@ fn add_twice(line: &mut [u8], at: usize, bytes: &[u8]) -> usize
     add(line, end, b" is in this shot already")
 }
 
+// Refusal 17: how many logical qubits the record told.
+fn add_encoded(line: &mut [u8], at: usize, bytes: &[u8]) -> usize
+    requires { ⌜ at ≤ length (now line) ⌝ }
+    ensures { λ r. ⌜ r ≤ length (now (line .exit)) ⌝ }
+{
+    let told = number(bytes, 1) as u64;
+    let end = add_part(line, at, b" encoded: the rows do not encode", told);
+    add(line, end, b" qubits")
+}
+
 // The word of a refusal, and what it wants.
 pub fn add_wanted(line: &mut [u8], at: usize, st: State, refusal: Refusal, bytes: &[u8]) -> usize
     requires { ⌜ at ≤ length (now line) ⌝ }
@@ -174,7 +184,7 @@ pub fn add_wanted(line: &mut [u8], at: usize, st: State, refusal: Refusal, bytes
         Refusal::Unknown => add(
             line,
             at,
-            b" unknown: kinds 1 to 7, 33 to 48 and 65 to 80 wanted",
+            b" unknown: kinds 1 to 8, 33 to 48 and 65 to 80 wanted",
         ),
         Refusal::Length => add_length(line, at, bytes),
         Refusal::Size => add_sizes(line, at, bytes),
@@ -190,5 +200,6 @@ pub fn add_wanted(line: &mut [u8], at: usize, st: State, refusal: Refusal, bytes
         Refusal::Twice => add_twice(line, at, bytes),
         Refusal::Spoiled => add(line, at, b" spoiled: a record of this shot was refused"),
         Refusal::Short => add(line, at, b" short: a lent list is below its least length"),
+        Refusal::Encoded => add_encoded(line, at, bytes),
     }
 }

@@ -1,5 +1,5 @@
 -- `stream::take::take` meets its contract, kind by kind. Assumes nothing.
-use Rattle.stream.proofs.Taking.{at-row, at-lose, at-light, at-unread, take-unknown, take-length, take-size, take-row, take-add, take-no-decode}
+use Rattle.stream.proofs.Taking.{at-row, at-lose, at-light, at-unread, take-unknown, take-length, take-size, take-row, take-add, take-logical, take-no-decode}
 use borrow.Author.Needs.{needs}
 use Rattle.records.specs.Records.{pauli, lost, lit, unread}
 use Rattle.stream.proofs.take.take.Statement.{statement}
@@ -74,6 +74,15 @@ enum-told-5 c = search needs
 refused-requires-3 : tie.Need-refused-requires-3
 refused-requires-3 c κs = search needs
 
+enum-told-6 : tie.Need-enum-told-6
+enum-told-6 c = search needs
+
+number-requires-7 : tie.Need-number-requires-7
+number-requires-7 c κs = search needs
+
+test-requires : tie.Need-test-requires
+test-requires c κs = search needs
+
 returns : tie.Need-returns
 returns c = take-unknown _ _ (c .before .before .before .before .before .before .before .pre .0) (c .before .enum-told .given .1) _ _ _ _ (c .refused .ensures)
 
@@ -119,6 +128,15 @@ returns-7 c =
 returns-8 : tie.Need-returns-8
 returns-8 c = take-no-decode _ _ (c .before .before .before .before .before .before .before .pre .0) (c .before .before .before .before .before .before .before .pre .1) (c .before .enum-told5 .given .1)
 
+same-length-6 : tie.Need-same-length-6
+same-length-6 c = search needs
+
+same-length-7 : tie.Need-same-length-7
+same-length-7 c = search needs
+
+returns-9 : tie.Need-returns-9
+returns-9 c = take-logical _ _ (c .before .before .before .before .before .before .before .before .before .before .pre .0) _ _ _ _ _ _ (c .before .before .before .before .enum-told6 .given .1) _ (c .before .before .before .number7 .ensures) (c .test .ensures)
+
 pub take-spec : {M : Type 1} → statement M
 take-spec =
     tie.close
@@ -146,6 +164,9 @@ take-spec =
     note-row-requires-2
     enum-told-5
     refused-requires-3
+    enum-told-6
+    number-requires-7
+    test-requires
     returns
     returns-2
     returns-3
@@ -158,4 +179,7 @@ take-spec =
     returns-6
     same-length-5
     returns-7
-    returns-8)
+    returns-8
+    same-length-6
+    same-length-7
+    returns-9)
