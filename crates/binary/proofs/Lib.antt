@@ -7,3 +7,4 @@ pub mod WordBits
 pub mod Weights
 pub mod UpTo
 pub mod Rank
+pub mod Examples

@@ -12,7 +12,7 @@ use Rattle.plain.specs.declared.RackReply.{RackReply}
 use Rattle.plain.specs.Plain.{stateOf, plainReply}
 
 abbrev pub version : ℕ
-version = 4
+version = 5
 
 -- The numbers of a reply that `stream::step` promises at the state that the numbers given stand for.
 pub record RackPromise (s : RackState) (bytes : List ℕ) (old new : Lent) (r : RackReply) : Type 0 where
