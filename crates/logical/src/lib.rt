@@ -1,5 +1,7 @@
 // The record of logical qubits: whether the rows encode as many as it says.
+ghost use mathlib.Core.Path.{_≡_};
 ghost use Prim.Native.Nat.{_≤_};
+ghost use Rattle.records.specs.declared.Answer.the-variants.{Taken};
 ghost use Rattle.logical.specs.Logical.{Few, RankOf, RanksOf, Tests};
 use code::Row;
 use code::Rows;
@@ -18,11 +20,12 @@ fn rank(n: u16, flat: &[u16], ends: &[u16], rows: Rows) -> usize
     requires { ⌜ (n ≤ 1024) × (rows .count ≤ 512) × (rows .first .0 ≤ 512) ⌝ }
     ensures { λ r. ⌜ RankOf n (now (flat .entry)) (now (ends .entry)) (rows .first .0) (rows .count) r ⌝ }
 {
+    let count = rows.count as usize;
     let lost = [1u8; 1024];
     let mut work = [0u64; 10240];
     let mut marks = [0u8; 1024];
     packing::pack_rows(n, flat, ends, rows, &mut work);
-    let found = search::mark_fixed(n, rows.count as usize, &lost, &mut work, &mut marks);
+    let found = search::mark_fixed(n, count, &lost, &mut work, &mut marks);
     let Search::Made(cleared) = found else {
         return 0;
     };
@@ -48,6 +51,16 @@ fn ranks(sizes: Sizes, flat: &[u16], ends: &[u16]) -> usize
     rank(n, flat, ends, x_rows) + rank(n, flat, ends, z_rows)
 }
 
+// Agreement changes nothing: an open shot stays as it is.
+fn agreed(st: State) -> Reply
+    ensures { λ r. ⌜ r ≡ record { state = st; answer = Taken } ⌝ }
+{
+    Reply {
+        state: st,
+        answer: Answer::Taken,
+    }
+}
+
 // Whether the rows encode k qubits. short: one of the lists of code, shot and work is short. Sizes that are out of range stand in an altered state only.
 pub fn test(st: State, k: u16, flat: &[u16], ends: &[u16], short: bool) -> Reply
     ensures { λ r. ⌜ Tests short k st (now (flat .entry)) (now (ends .entry)) r ⌝ }
@@ -63,8 +76,5 @@ pub fn test(st: State, k: u16, flat: &[u16], ends: &[u16], short: bool) -> Reply
     if together != sizes.n as usize {
         return refused(st, Refusal::Encoded, false);
     }
-    Reply {
-        state: st,
-        answer: Answer::Taken,
-    }
+    agreed(st)
 }

@@ -1,5 +1,5 @@
 -- `logical::test` meets its contract: each way is a line of the table. Assumes nothing.
-use mathlib.Core.Path.{refl, sym, _∙_}
+use mathlib.Core.Path.{sym, _∙_}
 use borrow.Author.Tests.{eq-eqb, ne-eqb}
 use Rattle.logical.proofs.Testing.{few-sizes, codeless, is-short, differs, agrees}
 use borrow.Author.Needs.{needs}
@@ -40,9 +40,12 @@ returns-3 : tie.Need-returns-3
 returns-3 c =
     differs _ _ _ _ _ _ (sym (c .before .before .before .before .before .before .before .before .codeless .ensures) ∙ c .before .before .before .before .before .before .before .if1 .left) _ (c .before .before .before .before .before .in-range .ensures) (c .before .before .before .before .if2 .left) _ (c .before .before .before .ranks .ensures) (ne-eqb _ _ (c .before .if3 .taken)) (c .refused3 .ensures)
 
+agreed-requires : tie.Need-agreed-requires
+agreed-requires c κs = search needs
+
 returns-4 : tie.Need-returns-4
 returns-4 c =
-    agrees _ _ _ _ _ _ (sym (c .before .before .before .before .before .before .before .codeless .ensures) ∙ c .before .before .before .before .before .before .if1 .left) _ (c .before .before .before .before .in-range .ensures) (c .before .before .before .if2 .left) _ (c .before .before .ranks .ensures) (eq-eqb _ _ (c .if3 .left)) refl
+    agrees _ _ _ _ _ _ (sym (c .before .before .before .before .before .before .before .before .codeless .ensures) ∙ c .before .before .before .before .before .before .before .if1 .left) _ (c .before .before .before .before .before .in-range .ensures) (c .before .before .before .before .if2 .left) _ (c .before .before .before .ranks .ensures) (eq-eqb _ _ (c .before .if3 .left)) (c .agreed .ensures)
 
 pub test-spec : {M : Type 1} → statement M
 test-spec =
@@ -59,4 +62,5 @@ test-spec =
     cast-if3
     refused-requires-3
     returns-3
+    agreed-requires
     returns-4)
