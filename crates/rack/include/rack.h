@@ -27,7 +27,7 @@ extern "C" {
 /* ---- Numbers ---- */
 
 /* The version of records, lists and structs. */
-#define RACK_VERSION 4
+#define RACK_VERSION 5
 
 /* The kind of a record, its first byte. A row's is this and as many more as it has qubits. */
 enum rack_kind {
@@ -38,6 +38,7 @@ enum rack_kind {
     RACK_KIND_DECODE = 5,
     RACK_KIND_UNREAD_Z = 6,
     RACK_KIND_UNREAD_X = 7,
+    RACK_KIND_LOGICAL = 8,
     RACK_KIND_X_ROW = 32,
     RACK_KIND_Z_ROW = 64
 };
@@ -80,7 +81,7 @@ enum rack_word {
     RACK_WORD_STOPPED = 5
 };
 
-/* The number of a refusal; 0 where the library refused nothing. 10 is not used. */
+/* The number of a refusal; 0 where the library refused nothing. 10 and 13 to 16 are not used. */
 enum rack_refusal {
     RACK_REFUSAL_UNKNOWN = 1,
     RACK_REFUSAL_LENGTH = 2,
@@ -92,7 +93,8 @@ enum rack_refusal {
     RACK_REFUSAL_RANGE = 8,
     RACK_REFUSAL_TWICE = 9,
     RACK_REFUSAL_SPOILED = 11,
-    RACK_REFUSAL_SHORT = 12
+    RACK_REFUSAL_SHORT = 12,
+    RACK_REFUSAL_ENCODED = 17
 };
 
 /* The mark of a qubit. */
@@ -146,7 +148,9 @@ struct rack_state rack_fresh(void);
  *
  * The caller owes: pointers that are not null, aligned for their elements and good for the length given; lists that do not overlap.
  * A list shorter than its least length gets RACK_REFUSAL_SHORT, and no refusal writes to a list. Over a state or lists that were altered between
- * calls the answer means nothing, but every call returns and stays within the lists. */
+ * calls the answer means nothing, but every call returns and stays within the lists.
+ *
+ * RACK_KIND_LOGICAL writes to no list: it packs the rows on the stack and needs about 85 kB of it. Every other kind needs a few kB at most. */
 struct rack_reply rack_step(
     struct rack_state state,
     uint16_t *flat, size_t flat_length,
@@ -178,8 +182,8 @@ static inline struct rack_record rack_of_kind(uint8_t kind) {
     return record;
 }
 
-/* Adds a number to the body, the low byte first. One that two bytes can't hold is added as 65,535: no size, qubit or row is, so it is refused, and
- * as a limit it stops no half. */
+/* Adds a number to the body, the low byte first. One that two bytes can't hold is added as 65,535: no size, qubit, row or number of logical qubits is,
+ * so it is refused, and as a limit it stops no half. */
 static inline void rack_add(struct rack_record *record, size_t number) {
     size_t held = number < 65535 ? number : 65535;
 
@@ -222,6 +226,13 @@ static inline struct rack_record rack_x_row(const uint16_t *qubits, size_t weigh
 
 static inline struct rack_record rack_z_row(const uint16_t *qubits, size_t weight) {
     return rack_of_row(RACK_KIND_Z_ROW, qubits, weight);
+}
+
+/* The code's logical qubits, compared with what its rows encode: n less the ranks of the X rows and of the Z rows. Where they agree nothing changes,
+ * a shot stays open; where they differ RACK_REFUSAL_ENCODED, and there is no code and no shot. Refused without a complete code
+ * (RACK_REFUSAL_CODELESS). */
+static inline struct rack_record rack_logical(size_t k) {
+    return rack_of_number(RACK_KIND_LOGICAL, k);
 }
 
 /* A qubit was lost. This and the four below are refused without a complete code (RACK_REFUSAL_CODELESS), where there is no such qubit or row
@@ -330,6 +341,7 @@ static inline const char *rack_refusal_name(uint16_t refusal) {
     case RACK_REFUSAL_TWICE: return "twice";
     case RACK_REFUSAL_SPOILED: return "spoiled";
     case RACK_REFUSAL_SHORT: return "short";
+    case RACK_REFUSAL_ENCODED: return "encoded";
     default: return "no refusal";
     }
 }

@@ -60,7 +60,8 @@ names! {
 names! {
     /// Why a record is refused. Lost qubits and lit or unread rows: codeless without a complete
     /// code, range where there is no such qubit or row, twice for a qubit that is lost already or
-    /// a row that is lit or unread already.
+    /// a row that is lit or unread already. Logical qubits: codeless without a complete code,
+    /// encoded where its rows encode another number.
     Refusal, "refusal", u16;
     Unknown = refusal::UNKNOWN, "unknown";
     Length = refusal::LENGTH, "length";
@@ -73,6 +74,7 @@ names! {
     Twice = refusal::TWICE, "twice";
     Spoiled = refusal::SPOILED, "spoiled";
     Short = refusal::SHORT, "short";
+    Encoded = refusal::ENCODED, "encoded";
 }
 
 names! {

@@ -78,6 +78,14 @@ impl Rack {
         self.take(Record::z_row(qubits))
     }
 
+    /// The code's logical qubits, compared with what its rows encode: n less the ranks of the X rows
+    /// and of the Z rows. Where they agree nothing changes, a shot stays open; where they differ
+    /// `Refusal::Encoded`, and there is no code and no shot. `Refusal::Codeless` without a complete
+    /// code. It needs about 85 kB of stack.
+    pub fn logical(&mut self, k: usize) -> Result<Answer<'_>, Error> {
+        self.take(Record::logical(k))
+    }
+
     /// A qubit was lost.
     pub fn lost(&mut self, qubit: usize) -> Result<Answer<'_>, Error> {
         self.take(Record::lost(qubit))

@@ -1,7 +1,7 @@
 //! What `include/rack.h` declares, number for number.
 
 /// The version of records, lists and structs.
-pub const VERSION: u16 = 4;
+pub const VERSION: u16 = 5;
 
 /// The kind of a record, its first byte. A row's is this and as many more as it has qubits.
 pub mod kind {
@@ -12,6 +12,7 @@ pub mod kind {
     pub const DECODE: u8 = 5;
     pub const UNREAD_Z: u8 = 6;
     pub const UNREAD_X: u8 = 7;
+    pub const LOGICAL: u8 = 8;
     pub const X_ROW: u8 = 32;
     pub const Z_ROW: u8 = 64;
 }
@@ -54,7 +55,7 @@ pub mod word {
     pub const STOPPED: u16 = 5;
 }
 
-/// The number of a refusal; 0 where the library refused nothing. 10 is not used.
+/// The number of a refusal; 0 where the library refused nothing. 10 and 13 to 16 are not used.
 pub mod refusal {
     pub const UNKNOWN: u16 = 1;
     pub const LENGTH: u16 = 2;
@@ -67,6 +68,7 @@ pub mod refusal {
     pub const TWICE: u16 = 9;
     pub const SPOILED: u16 = 11;
     pub const SHORT: u16 = 12;
+    pub const ENCODED: u16 = 17;
 }
 
 /// The mark of a qubit.

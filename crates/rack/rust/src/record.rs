@@ -3,7 +3,8 @@
 use crate::raw::{kind, most};
 
 /// One record, made by a function for each kind. A number that two bytes can't hold is written as
-/// 65,535: no size, qubit or row is, so it is refused, and as a limit it stops no half.
+/// 65,535: no size, qubit, row or number of logical qubits is, so it is refused, and as a limit it
+/// stops no half.
 #[derive(Clone, Copy, PartialEq, Eq, Debug)]
 pub struct Record {
     length: usize,
@@ -25,6 +26,11 @@ impl Record {
     /// As `x_row`.
     pub fn z_row(qubits: &[u16]) -> Record {
         Record::row(kind::Z_ROW, qubits)
+    }
+
+    /// The code's logical qubits, compared with what its rows encode.
+    pub fn logical(k: usize) -> Record {
+        Record::of(kind::LOGICAL).and(k)
     }
 
     pub fn lost(qubit: usize) -> Record {
