@@ -1,8 +1,8 @@
-//! The bench shots of document 01 and its printed example, and shots with unread rows.
+//! The bench shots of document 01 and its printed example, shots with unread rows, and logical qubits compared.
 
 use crate::codes::{set, Code};
 use crate::half::Asked;
-use crate::known::{four, seven};
+use crate::known::{four, gross, seven, toric};
 use crate::records;
 use crate::shot::{size, Decode, Shot};
 use crate::stream::Record;
@@ -16,7 +16,7 @@ pub struct Bench {
 }
 
 pub fn all() -> Vec<Bench> {
-    document().into_iter().chain(unread()).collect()
+    document().into_iter().chain(unread()).chain(logical()).collect()
 }
 
 pub fn document() -> Vec<Bench> {
@@ -99,6 +99,40 @@ pub fn unread() -> [Bench; 20] {
         made("P7, both unread", four(), [all, &[], &[0], &[0]], [3, 100], "unsure 1 3 3 3 flip"),
         made("P11, X rows unread", seven(), [even, &[0], &[], three], [1, 100], "certain 1 3 1 0 flip 2 4 6"),
     ]
+}
+
+/// Codes with the number of logical qubits that is known of them, and with what other counts come to. The X half of a shot in
+/// which nothing is lost follows.
+pub fn logical() -> Vec<Bench> {
+    [
+        ("Four", four(), 2, vec![1, 3]),
+        // The rows of one kind alone, or of both as one: 4.
+        ("Seven", seven(), 1, vec![0, 2, 4, 256, 257, 65_535]),
+        // A repeated row counted: 0.
+        ("repeated rows", twice(), 1, vec![0, 2]),
+        // All rows of a kind make nothing; each counted: 0.
+        ("toric code", toric(3), 2, vec![0, 1, 3, 10]),
+        ("bicycle code", gross(1), 12, vec![0, 11, 13, 78, 12 << 8]),
+        ("no rows", Code::new(1024), 1024, vec![0, 1023, 1025, 4, 65_535]),
+    ]
+    .into_iter()
+    .flat_map(|(name, code, k, others)| {
+        let agrees = compared(name, &code, k, [(1, "X certain 0 0 0 0 flip")]);
+        let differ = [(1, "refused 17 8"), (2, "refused 7 5")];
+        let differ = others.into_iter().map(move |k| compared(name, &code, k, differ));
+        [agrees].into_iter().chain(differ)
+    })
+    .collect()
+}
+
+/// A code loaded, a number of logical qubits and a decode.
+fn compared<const N: usize>(name: &str, code: &Code, k: usize, lines: [(usize, &str); N]) -> Bench {
+    let decode = records::decode(Asked::AMPLE);
+    Bench {
+        name: format!("{name}, k {k}"),
+        records: [records::load(code), vec![records::logical(k), decode]].concat(),
+        lines: lines.map(|(at, line)| (at, line.to_string())).into(),
+    }
 }
 
 /// Qubits on no row with the budgets on both sides of a word's end, and a size out of range.

@@ -4,6 +4,7 @@ use crate::bits::Bits;
 use crate::half::Row;
 use crate::linear::Span;
 use crate::random::Random;
+use std::collections::BTreeSet;
 
 pub const QUBITS: usize = 1024;
 pub const ROWS: usize = 512;
@@ -19,6 +20,15 @@ pub struct Code {
 /// The span of rows on n qubits.
 pub fn span(n: usize, rows: &[Row]) -> Span {
     Span::of(n, rows.iter().map(|row| set(n, row)))
+}
+
+pub fn rank(n: usize, rows: &[Row]) -> usize {
+    span(n, rows).rank()
+}
+
+/// The number of rows without repeated ones.
+pub fn distinct(rows: &[Row]) -> usize {
+    rows.iter().collect::<BTreeSet<&Row>>().len()
 }
 
 pub fn set(n: usize, row: &[usize]) -> Bits {
@@ -48,7 +58,7 @@ impl Code {
 
     /// The number of logical qubits.
     pub fn k(&self) -> usize {
-        self.n - span(self.n, &self.x).rank() - span(self.n, &self.z).rank()
+        self.n - rank(self.n, &self.x) - rank(self.n, &self.z)
     }
 
     /// The same code with qubits renamed and rows in another order.

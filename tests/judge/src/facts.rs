@@ -2,7 +2,7 @@
 
 use crate::bench::{self, Bench};
 use crate::bits::Bits;
-use crate::codes::{span, Code};
+use crate::codes::{rank, Code};
 use crate::families::Family;
 use crate::half::{Asked, Half, Report, Row, Word};
 use crate::judge::{ensure, verdict, Judged};
@@ -57,6 +57,7 @@ impl Facts {
     pub fn bench(&mut self) {
         self.shots("document 01's", &bench::document());
         self.shots("with unread rows", &bench::unread());
+        self.shots("with logical qubits compared", &bench::logical());
     }
 
     fn shots(&mut self, which: &'static str, shots: &[Bench]) {
@@ -111,9 +112,15 @@ fn tried(half: &Half, note: &mut Note) {
     let verdict = verdict(half);
     let off = |row: &Row| row.iter().copied().filter(|&qubit| !half.lost.get(qubit)).collect();
     let kept: Vec<Row> = half.other.iter().map(off).collect();
-    let inside = span(half.n, half.other).rank() - span(half.n, &kept).rank();
+    let inside = rank(half.n, half.other) - rank(half.n, &kept);
     let count = verdict.fixed.len();
     note("fixed by ranks", ensure(count == inside, || format!("{count} fixed, not {inside}")));
+    if literal::few(half.rows) {
+        let all = literal::products(half.n, half.rows).len();
+        let rank = rank(half.n, half.rows);
+        let same = ensure(all == 1 << rank, || format!("{all} products, rank {rank}"));
+        note("ranks by products", same);
+    }
     if literal::small(half) {
         let fixed = literal::fixed(half);
         let same = ensure(fixed == verdict.fixed, || format!("fixed {fixed:?}"));

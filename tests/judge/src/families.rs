@@ -65,6 +65,7 @@ impl Family {
             Family::Joined => joined(random, 100),
             Family::Late => late(random),
         };
+        let code = if random.percent(10) { crowded(random, code) } else { code };
         let code = if random.percent(50) { code.mixed(random) } else { code };
         let code = if random.percent(50) { code.turned() } else { code };
         assert!(code.legal(), "{} makes an illegal code", self.name());
@@ -92,22 +93,23 @@ fn pair(random: &mut Random) -> Code {
         code.z.extend([sum(n, &[draw(), draw(), draw()]), draw().clone()]);
     }
     code.z.retain(fair);
-    crowd(random, n, &mut code.x);
-    crowd(random, n, &mut code.z);
-    code
+    crowded(random, code)
 }
 
-/// Repeated rows and sums of two.
-fn crowd(random: &mut Random, n: usize, rows: &mut Vec<Row>) {
-    for _ in 0..random.below(4) {
-        if rows.is_empty() {
-            return;
+/// With repeated rows and sums of two.
+fn crowded(random: &mut Random, mut code: Code) -> Code {
+    for rows in [&mut code.x, &mut code.z] {
+        for _ in 0..random.below(4) {
+            if rows.is_empty() || rows.len() == ROWS {
+                break;
+            }
+            let first = rows[random.below(rows.len())].clone();
+            let both = sum(code.n, &[&first, &rows[random.below(rows.len())]]);
+            rows.push(if fair(&both) && random.percent(70) { both } else { first });
         }
-        let first = rows[random.below(rows.len())].clone();
-        let both = sum(n, &[&first, &rows[random.below(rows.len())]]);
-        rows.push(if fair(&both) { both } else { first });
+        random.shuffle(rows);
     }
-    random.shuffle(rows);
+    code
 }
 
 /// Heavy rows of one kind, which need many guesses and leave few.

@@ -7,7 +7,7 @@ use crate::losses;
 use crate::random::Random;
 use crate::records;
 use crate::shot::{size, KINDS};
-use crate::strays::{bad_sizes, ending, malformed, row, stray};
+use crate::strays::{bad_sizes, ending, malformed, miscounted, row, stray};
 use crate::stream::{Lent, Model, Record, X_ROW, Z_ROW};
 use crate::wrong::Wrong;
 
@@ -95,16 +95,23 @@ impl Maker<'_> {
             self.disturb_load(&code, &mut load);
         }
         self.push_all(load);
+        let Some(code) = self.model.code().cloned() else { return };
+        let k = code.k();
+        if self.random.percent(40) {
+            let sent = if self.trouble() { miscounted(self.random, &code) } else { k };
+            self.push(records::logical(sent));
+        }
         for _ in 0..self.random.within(1, 16) {
             let Some(code) = self.model.code().cloned() else { return };
             if self.shots >= shots {
                 return;
             }
-            self.shot(&code);
+            self.shot(&code, k);
         }
     }
 
-    fn shot(&mut self, code: &Code) {
+    /// A shot of a code of k logical qubits, which are sometimes compared.
+    fn shot(&mut self, code: &Code, k: usize) {
         let shot = losses::shot(self.random, code);
         let mut asked = losses::asked(self.random, code, &shot);
         let mut made = records::shot(&shot);
@@ -113,8 +120,12 @@ impl Maker<'_> {
         }
         let plain = made.clone();
         made.push(records::decode(asked));
+        if self.random.percent(10) {
+            let at = self.random.within(0, made.len());
+            made.insert(at, records::logical(k));
+        }
         while self.trouble() {
-            self.disturb_shot(code, &mut made);
+            self.disturb_shot(code, k, &mut made);
         }
         self.push_all(made);
         if self.random.percent(15) {
@@ -127,11 +138,12 @@ impl Maker<'_> {
     fn disturb_load(&mut self, code: &Code, load: &mut Vec<Record>) {
         let at = self.random.below(load.len());
         let kind = self.random.pick(&[X_ROW, Z_ROW]);
-        match self.random.below(5) {
+        match self.random.below(6) {
             0 => load.insert(at, bad_sizes(self.random)),
             1 => load.insert(at, row(self.random, kind, code.n)),
             2 => load.insert(at, stray(self.random, &self.model)),
             3 => *load = records::load(&self.bent(code)),
+            4 => load.insert(at, records::logical(code.k())),
             _ => {
                 let other = self.random.below(load.len());
                 load.swap(at, other);
@@ -161,17 +173,19 @@ impl Maker<'_> {
         bent
     }
 
-    fn disturb_shot(&mut self, code: &Code, made: &mut Vec<Record>) {
+    fn disturb_shot(&mut self, code: &Code, k: usize, made: &mut Vec<Record>) {
         let kind = self.random.pick(&KINDS);
         let past = size(code, kind) + self.random.pick(&[0, 1, 2, 300]);
         let budget = self.random.pick(&[1, 63, 64, 65, 128, 255]);
         let again = made[self.random.below(made.len())].clone();
-        let disturbing = match self.random.below(12) {
+        let disturbing = match self.random.below(15) {
             0..=2 => records::number(kind, past),
             3..=4 => again,
             5..=7 => self.otherwise(made).unwrap_or(again),
             8..=9 => records::decode(Asked { budget, limit: 9 }),
             10 => row(self.random, X_ROW, code.n),
+            11 => records::logical(miscounted(self.random, code)),
+            12..=13 => records::logical(k),
             _ => bad_sizes(self.random),
         };
         let at = self.random.within(0, made.len());

@@ -1,9 +1,10 @@
-//! Tests from outside: document 01, with unread rows, written a second time, plainly, and a judge
-//! that needs no turns.
+//! Tests from outside: document 01, with unread rows and logical qubits compared, written a second
+//! time, plainly, and a judge that needs no turns.
 
 pub mod bench;
 pub mod bits;
 pub mod codes;
+pub mod compared;
 pub mod facts;
 pub mod families;
 pub mod form;

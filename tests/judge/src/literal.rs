@@ -5,27 +5,38 @@ use crate::half::{Half, Row};
 use crate::judge::fits;
 use std::collections::BTreeSet;
 
+/// Whether all products of the rows can be tried.
+pub fn few(rows: &[Row]) -> bool {
+    rows.len() <= 8
+}
+
 /// Whether all products and all errors can be tried.
 pub fn small(half: &Half) -> bool {
-    half.other.len() <= 8 && half.lost.count() <= 8
+    few(half.other) && half.lost.count() <= 8
 }
 
 fn subsets(count: usize) -> impl Iterator<Item = Vec<usize>> {
     (0..1usize << count).map(move |set| (0..count).filter(|at| set >> at & 1 == 1).collect())
 }
 
-/// Every product of other-kind rows inside the lost set, the empty one too.
-fn products(half: &Half) -> Vec<Bits> {
-    let product = |rows: Vec<usize>| {
-        let qubits = rows.into_iter().flat_map(|at| half.other[at].iter().copied());
-        Bits::of(half.n, qubits)
+/// Every product of the rows, the empty one too, once.
+pub fn products(n: usize, rows: &[Row]) -> BTreeSet<Row> {
+    let product = |places: Vec<usize>| {
+        let qubits = places.into_iter().flat_map(|at| rows[at].iter().copied());
+        Bits::of(n, qubits).ones()
     };
-    let inside = |product: &Bits| product.inside(half.lost);
-    subsets(half.other.len()).map(product).filter(inside).collect()
+    subsets(rows.len()).map(product).collect()
+}
+
+/// Every product of other-kind rows inside the lost set.
+fn inside(half: &Half) -> Vec<Bits> {
+    let products = products(half.n, half.other).into_iter();
+    let products = products.map(|product| Bits::of(half.n, product));
+    products.filter(|product| product.inside(half.lost)).collect()
 }
 
 pub fn fixed(half: &Half) -> Vec<usize> {
-    let lowest: BTreeSet<usize> = products(half).iter().filter_map(Bits::lowest).collect();
+    let lowest: BTreeSet<usize> = inside(half).iter().filter_map(Bits::lowest).collect();
     lowest.into_iter().collect()
 }
 
@@ -34,7 +45,7 @@ pub fn classes(half: &Half) -> usize {
     let lost = half.lost.ones();
     let error = |places: Vec<usize>| Bits::of(half.n, places.into_iter().map(|at| lost[at]));
     let all = subsets(lost.len()).map(error).filter(|error| fits(half, error));
-    let products = products(half);
+    let products = inside(half);
     let first = |error: Bits| -> Row {
         let sums = products.iter().map(|product| {
             let mut sum = error.clone();

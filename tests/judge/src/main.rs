@@ -149,23 +149,27 @@ fn show(failure: &Failure) {
     print!("{}", hexadecimal(&failure.records));
 }
 
-/// Whether every wrong variant of the model is caught.
+/// Whether every wrong variant of the model is caught, by the streams of one seed or of those that follow.
 fn check_wrongs(arguments: &Arguments) -> Result<bool, String> {
     let path = std::env::current_exe().map_err(|error| error.to_string())?;
     let path = path.to_string_lossy().into_owned();
-    let seed = arguments.seed()?.unwrap_or(SEEDS[0]);
+    let seeds = arguments.seed()?.map_or(SEEDS.to_vec(), |seed| vec![seed]);
     let shots = arguments.shots(10_000)?;
     let mut tally = (0, 0);
     for (name, _) in Wrong::ALL {
         let args = ["shots", "--wrong", name].map(String::from).into();
-        match (Program { path: path.clone(), args }).seed(seed, shots) {
-            Ok(_) => {
+        let program = Program { path: path.clone(), args };
+        let failure = seeds.iter().find_map(|&seed| Some((seed, program.seed(seed, shots).err()?)));
+        match failure {
+            None => {
                 println!("{name}: MISSED");
                 tally.1 += 1;
             }
-            Err(failure) => {
-                let judged = failure.judged.map_or_else(|why| why, |()| "differs only".into());
-                println!("{name}: caught after {} shots, by elimination: {judged}", failure.passed);
+            Some((seed, Failure { passed, judged, .. })) => {
+                let judged = judged.map_or_else(|why| why, |()| "differs only".into());
+                println!(
+                    "{name}: caught after {passed} shots of seed {seed}, by elimination: {judged}"
+                );
                 tally.0 += 1;
             }
         }

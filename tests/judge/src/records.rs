@@ -3,7 +3,7 @@
 use crate::codes::Code;
 use crate::half::{Asked, Row};
 use crate::shot::{Decode, Shot, KINDS};
-use crate::stream::{Record, X_ROW, Z_ROW};
+use crate::stream::{Record, LOGICAL, X_ROW, Z_ROW};
 
 fn record(kind: u8, numbers: &[usize]) -> Record {
     let low = |number: &usize| (*number as u16).to_le_bytes();
@@ -22,6 +22,11 @@ pub fn row(kind: u8, row: &[usize]) -> Record {
 /// A lost qubit (2), a lit Z row (3) or X row (4), an unread Z row (6) or X row (7).
 pub fn number(kind: u8, number: usize) -> Record {
     record(kind, &[number])
+}
+
+/// The code's logical qubits, modulo 65,536.
+pub fn logical(k: usize) -> Record {
+    record(LOGICAL, &[k])
 }
 
 pub fn decode(asked: Asked) -> Record {

@@ -3,14 +3,14 @@
 use crate::half::{Counts, Said, Word};
 use crate::machine;
 use crate::shot::Decode;
-use crate::stream::{body, Answer, Lent, Model, Record};
+use crate::stream::{Answer, Lent, Model, Record};
 use crate::wrong::Wrong;
 
 /// Splits a stream into records by kind; an unknown or cut-off one is the last.
 pub fn split(mut bytes: &[u8], wrong: Wrong) -> Vec<Record> {
     let mut records = Vec::new();
     while let Some(&kind) = bytes.first() {
-        let end = match body(kind) {
+        let end = match wrong.body(kind) {
             Some(length) => 1 + length,
             None if wrong == Wrong::UnknownGoesOn => 1,
             None => bytes.len(),

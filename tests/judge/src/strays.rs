@@ -1,6 +1,6 @@
 //! Single records that are often refused.
 
-use crate::codes::{QUBITS, WEIGHT};
+use crate::codes::{rank, Code, QUBITS, WEIGHT};
 use crate::form::WORDS;
 use crate::half::Asked;
 use crate::random::Random;
@@ -10,9 +10,9 @@ use crate::stream::{Lent, Model, Record, Z_ROW};
 /// A record that often, but not always, can be carried out.
 pub fn stray(random: &mut Random, model: &Model) -> Record {
     let n = model.code().map_or(4, |code| code.n);
-    match (model.awaited(), random.below(10)) {
+    match (model.awaited(), random.below(11)) {
         (Some((n, kind)), 0) => row(random, kind, n),
-        (Some((n, kind)), 1..=5) => records::row(kind, &random.subset(n, 1, WEIGHT)),
+        (Some((n, kind)), 1..=4) => records::row(kind, &random.subset(n, 1, WEIGHT)),
         (None, 0..=3) if model.code().is_none() => tiny_sizes(random),
         (_, 0) => tiny_sizes(random),
         (_, 1) => bad_sizes(random),
@@ -21,6 +21,11 @@ pub fn stray(random: &mut Random, model: &Model) -> Record {
             let budget = random.pick(&[0, 1, 2, 63, 64, 255]);
             records::decode(Asked { budget, limit: random.below(6) })
         }
+        (_, 5) => records::logical(match model.code() {
+            Some(code) if random.percent(80) => code.k(),
+            Some(code) => miscounted(random, code),
+            None => random.within(0, 4),
+        }),
         _ => {
             let kind = random.pick(&[2, 2, 2, 3, 4, 6, 7]);
             records::number(kind, random.within(0, n.min(4)))
@@ -56,10 +61,26 @@ pub fn bad_sizes(random: &mut Random) -> Record {
     records::sizes(n, x, z)
 }
 
+/// A number of logical qubits that a wrong comparison may take for the code's; sometimes it is the code's.
+pub fn miscounted(random: &mut Random, code: &Code) -> usize {
+    let Code { n, x, z } = code;
+    match random.below(12) {
+        0 | 1 => code.k() + 1,
+        2 | 3 => code.k().wrapping_sub(1),
+        4 | 5 => n.wrapping_sub(x.len() + z.len()),
+        6 => n - rank(*n, x),
+        7 => n - rank(*n, z),
+        8 => (code.k() as u16).swap_bytes().into(),
+        9 => code.k() + 256,
+        10 => random.pick(&[0, *n]),
+        _ => 65_535,
+    }
+}
+
 /// An unknown or cut-off record, which ends a program.
 pub fn ending(random: &mut Random, mut record: Record) -> Record {
     if random.percent(50) {
-        record[0] = random.pick(&[0, 8, 9, 31, 32, 49, 63, 64, 81, 96, 97, 128, 255]);
+        record[0] = random.pick(&[0, 9, 10, 31, 32, 49, 63, 64, 81, 96, 97, 128, 255]);
     } else {
         record.truncate(random.within(1, record.len() - 1));
     }

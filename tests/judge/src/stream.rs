@@ -42,6 +42,7 @@ pub struct Model {
     wrong: Wrong,
 }
 
+pub const LOGICAL: u8 = 8;
 pub const X_ROW: u8 = 32;
 pub const Z_ROW: u8 = 64;
 
@@ -49,7 +50,7 @@ pub const Z_ROW: u8 = 64;
 pub fn body(kind: u8) -> Option<usize> {
     match kind {
         1 => Some(6),
-        2..=4 | 6 | 7 => Some(2),
+        2..=4 | 6..=LOGICAL => Some(2),
         5 => Some(3),
         33..=48 => Some(2 * usize::from(kind - X_ROW)),
         65..=80 => Some(2 * usize::from(kind - Z_ROW)),
@@ -85,6 +86,14 @@ impl Model {
         }
     }
 
+    /// The shot of the complete code, and whether it is spoiled.
+    pub fn shot(&self) -> Option<(&Shot, bool)> {
+        match &self.state {
+            State::Ready { shot, spoiled, .. } => Some((shot, *spoiled)),
+            _ => None,
+        }
+    }
+
     /// The loading code's number of qubits and the row kind awaited.
     pub fn awaited(&self) -> Option<(usize, u8)> {
         match &self.state {
@@ -115,8 +124,8 @@ impl Model {
         let room = self.code().is_none_or(|code| enough(code.n));
         let short = lent.short || (kind == 5 && !room);
         match (number, kind) {
-            (1, _) => body(kind).is_none(),
-            (2, _) => body(kind) != Some(bytes.len()),
+            (1, _) => self.wrong.body(kind).is_none(),
+            (2, _) => self.wrong.body(kind) != Some(bytes.len()),
             (3, 1) => {
                 let sizes = numbers(bytes);
                 !(1..=QUBITS).contains(&sizes[0]) || sizes[1].max(sizes[2]) > ROWS
@@ -126,12 +135,13 @@ impl Model {
             }
             (5, _) if row_kind(kind) != 0 => self.bad_row(&numbers(bytes)),
             (6, _) if row_kind(kind) != 0 => !short && self.clash(kind, numbers(bytes)),
-            (7, 2..=7) => self.code().is_none(),
+            (7, 2..=LOGICAL) => self.code().is_none() && self.wrong.codeless(kind),
             (8, _) if KINDS.contains(&kind) => !self.there(kind, numbers(bytes)[0]),
             (9, _) if KINDS.contains(&kind) => !short && self.twice(kind, numbers(bytes)[0]),
             (10, 5) => self.wrong.refuses(bytes[0]),
             (11, 5) => matches!(self.state, State::Ready { spoiled: true, .. }),
             (12, _) => short,
+            (17, LOGICAL) => self.differs(bytes),
             _ => false,
         }
     }
@@ -167,11 +177,19 @@ impl Model {
         barred.any(|&kind| number < size(code, kind) && shot.set(kind).get(number))
     }
 
+    /// Whether the code's rows encode another number of qubits than these bytes say.
+    fn differs(&self, bytes: &[u8]) -> bool {
+        match &self.state {
+            State::Ready { code, shot, .. } => !self.wrong.agrees(code, shot, bytes),
+            _ => self.wrong == Wrong::CodelessDiffers,
+        }
+    }
+
     /// The last column of the table.
     fn leave(&mut self, number: u8, kind: u8) {
         match (number, &mut self.state) {
             (1 | 2 | 8 | 9, State::Ready { spoiled, .. }) => *spoiled = true,
-            (3..=6, state) => *state = State::Bare,
+            (3..=6 | 17, state) => *state = State::Bare,
             (10 | 11, _) => self.end_shot(),
             (12, _) if kind == 5 => self.end_shot(),
             _ => {}
@@ -215,6 +233,15 @@ impl Model {
                 }
                 Answer::Decode(Decode { code, shot, asked: Asked { budget, limit } })
             }
+            (LOGICAL, State::Ready { code, shot, spoiled }) => {
+                if self.wrong == Wrong::AgreedEmpties {
+                    *shot = Shot::empty(code);
+                }
+                *spoiled = self.wrong.spoiled_after_agreeing(*spoiled);
+                Answer::Taken
+            }
+            // Only a wrong rule takes it without a code.
+            (LOGICAL, _) => Answer::Taken,
             (_, State::Loading { code, .. }) => {
                 put(code, kind, numbers(bytes));
                 self.complete()

@@ -1,10 +1,11 @@
 //! Deliberately wrong rules, to see that the tests catch them.
 
-use crate::codes::Code;
+use crate::codes::{distinct, rank, Code};
 use crate::form::{Form, BITS, WORDS};
 use crate::half::{Half, Row};
 use crate::judge;
-use crate::shot::alike;
+use crate::shot::{alike, Shot};
+use crate::stream::{body, LOGICAL};
 use std::cmp::Reverse;
 
 macro_rules! wrongs {
@@ -80,6 +81,27 @@ wrongs! {
     UnreadTwice "no-9-for-unread-twice"
     NineAcross "9-across-kinds"
     ClashOfLast "6-looks-at-last-row"
+    // Logical qubits compared.
+    DependentCounted "dependent-rows-counted"
+    DistinctCounted "distinct-rows-counted"
+    RepeatedCounted "repeated-rows-counted"
+    XForgotten "x-rows-forgotten"
+    ZForgotten "z-rows-forgotten"
+    RankedTogether "kinds-ranked-together"
+    UnreadUnranked "unread-rows-not-ranked"
+    AtLeast "17-only-for-too-few"
+    AtMost "17-only-for-too-many"
+    BytesExchanged "bytes-of-k-exchanged"
+    LowByteAlone "low-byte-of-k-alone"
+    AgreedEmpties "shot-emptied-by-agreement"
+    AgreedHeals "unspoiled-by-agreement"
+    AgreedSpoils "spoiled-by-agreement"
+    SeventeenKeeps "code-kept-after-17"
+    SeventeenSpoils "spoiled-after-17"
+    SeventeenEnds "shot-ended-after-17"
+    CodelessDiffers "17-without-code"
+    CodelessTaken "kind-8-taken-without-code"
+    LogicalUnknown "kind-8-unknown"
     // The rest of the stream.
     ShotKept "shot-kept-after-decode"
     UnreadKept "unread-kept-after-decode"
@@ -110,7 +132,7 @@ impl Wrong {
 
     /// The order in which refusals are tried.
     pub fn order(self) -> Vec<u8> {
-        let mut order: Vec<u8> = (1..=12).collect();
+        let mut order: Vec<u8> = (1..=12).chain([17]).collect();
         match self {
             Wrong::FiveFirst => order.swap(3, 4),
             Wrong::SixUnseen => order.retain(|&number| number != 6),
@@ -134,9 +156,11 @@ impl Wrong {
             | (Wrong::FiveKeeps, 5)
             | (Wrong::SixKeeps, 6)
             | (Wrong::EightForgives, 8)
-            | (Wrong::NineForgives, 9) => NOTHING_CHANGED,
+            | (Wrong::NineForgives, 9)
+            | (Wrong::SeventeenKeeps, 17) => NOTHING_CHANGED,
             (Wrong::SevenDrops, 7) => 3,
-            (Wrong::ElevenSpoils, 11) => 8,
+            (Wrong::ElevenSpoils, 11) | (Wrong::SeventeenSpoils, 17) => 8,
+            (Wrong::SeventeenEnds, 17) => 11,
             _ => number,
         }
     }
@@ -161,6 +185,68 @@ impl Wrong {
             (Wrong::UnreadAfterLit, 7) => &[7],
             (Wrong::NineAcross, 3 | 4 | 6 | 7) => &[3, 4, 6, 7],
             _ => alike(kind),
+        }
+    }
+
+    /// The length that a kind's body has.
+    pub fn body(self, kind: u8) -> Option<usize> {
+        match (self, kind) {
+            (Wrong::LogicalUnknown, LOGICAL) => None,
+            _ => body(kind),
+        }
+    }
+
+    /// Whether a kind gets refusal 7 without a complete code.
+    pub fn codeless(self, kind: u8) -> bool {
+        kind != LOGICAL || !matches!(self, Wrong::CodelessDiffers | Wrong::CodelessTaken)
+    }
+
+    /// Whether the bytes of kind 8 have the number of qubits that the code's rows encode.
+    pub fn agrees(self, code: &Code, shot: &Shot, bytes: &[u8]) -> bool {
+        let pair = [bytes[0], bytes[1]];
+        let sent: i32 = match self {
+            Wrong::BytesExchanged => u16::from_be_bytes(pair).into(),
+            _ => u16::from_le_bytes(pair).into(),
+        };
+        let encoded = self.encoded(code, shot);
+        match self {
+            Wrong::AtLeast => sent >= encoded,
+            Wrong::AtMost => sent <= encoded,
+            Wrong::LowByteAlone => (sent - encoded) % 256 == 0,
+            _ => sent == encoded,
+        }
+    }
+
+    /// n less what the rows count; below 0 where a wrong rule has too many rows or some that clash.
+    fn encoded(self, code: &Code, shot: &Shot) -> i32 {
+        let Code { n, x, z } = code;
+        let rank = |rows: &[Row]| rank(*n, rows);
+        let read = |rows: &[Row], unread: u8| -> Vec<Row> {
+            let places = (0..rows.len()).filter(|&at| !shot.set(unread).get(at));
+            places.map(|at| rows[at].clone()).collect()
+        };
+        let bound = match self {
+            Wrong::DependentCounted => x.len() + z.len(),
+            Wrong::DistinctCounted => distinct(x) + distinct(z),
+            Wrong::RepeatedCounted => {
+                let repeated = x.len() - distinct(x) + z.len() - distinct(z);
+                rank(x) + rank(z) + repeated
+            }
+            Wrong::XForgotten => rank(z),
+            Wrong::ZForgotten => rank(x),
+            Wrong::RankedTogether => rank(&[&x[..], z].concat()),
+            Wrong::UnreadUnranked => rank(&read(x, 7)) + rank(&read(z, 6)),
+            _ => rank(x) + rank(z),
+        };
+        *n as i32 - bound as i32
+    }
+
+    /// Whether a shot is spoiled after kind 8 agreed in it.
+    pub fn spoiled_after_agreeing(self, spoiled: bool) -> bool {
+        match self {
+            Wrong::AgreedHeals => false,
+            Wrong::AgreedSpoils => true,
+            _ => spoiled,
         }
     }
 

@@ -4,10 +4,10 @@ use judge::generate::{records, Mix};
 use judge::half::Asked;
 use judge::known::four;
 use judge::random::Random;
-use judge::records::{decode, load, number, row, sizes};
+use judge::records::{decode, load, logical, number, row, sizes};
 use judge::shot::KINDS;
 use judge::strays::shortened;
-use judge::stream::{Answer, Lent, Model, Record, X_ROW, Z_ROW};
+use judge::stream::{Answer, Lent, Model, Record, LOGICAL, X_ROW, Z_ROW};
 use judge::wrong::Wrong;
 
 const SHORT: Lent = Lent { short: true, ..Lent::AMPLE };
@@ -47,7 +47,7 @@ fn ask(budget: usize) -> Record {
 
 #[test]
 fn unknown_and_length_spoil() {
-    let unknown = [vec![0], vec![8], vec![32], vec![255, 0, 0]].map(|bad| (1, bad));
+    let unknown = [vec![0], vec![9], vec![32], vec![255, 0, 0]].map(|bad| (1, bad));
     let length = [
         vec![],
         vec![2, 0],
@@ -56,6 +56,9 @@ fn unknown_and_length_spoil() {
         vec![6],
         vec![6, 0, 0, 0],
         vec![7, 0],
+        vec![8],
+        vec![8, 2],
+        vec![8, 2, 0, 0],
     ];
     for (first, bad) in unknown.into_iter().chain(length.map(|bad| (2, bad))) {
         assert_eq!(on_four(&[ample(bad), ample(ask(1)), ample(ask(1))]), [first, 11, 0]);
@@ -67,9 +70,11 @@ fn loading_goes_on() {
     let x = row(X_ROW, &[0, 1]);
     let calls = [
         ample(sizes(2, 1, 1)),
-        ample(vec![8]),
+        ample(vec![9]),
         ample(vec![]),
         ample(lost(0)),
+        ample(logical(0)),
+        short(logical(9)),
         ample(number(6, 0)),
         ample(number(7, 9)),
         ample(ask(64)),
@@ -78,7 +83,7 @@ fn loading_goes_on() {
         ample(row(Z_ROW, &[0, 1])),
         ample(ask(0)),
     ];
-    assert_eq!(numbers(&calls), [0, 1, 2, 7, 7, 7, 7, 12, 0, 0, 0]);
+    assert_eq!(numbers(&calls), [0, 1, 2, 7, 7, 7, 7, 7, 7, 12, 0, 0, 0]);
 }
 
 #[test]
@@ -175,6 +180,35 @@ fn decode_lists_count_at_kind_5_only() {
 }
 
 #[test]
+fn logical_qubits_that_agree_change_nothing() {
+    let agreeing = || ample(logical(2));
+    let open = [ample(lost(0)), agreeing(), ample(lost(0)), agreeing(), ample(ask(1))];
+    assert_eq!(on_four(&open), [0, 0, 9, 0, 11]);
+    let stale = [ample(lost(0)), ample(ask(1)), agreeing(), ample(lost(0)), agreeing()];
+    assert_eq!(on_four(&[&stale[..], &[ample(ask(1))]].concat()), [0; 6]);
+}
+
+#[test]
+fn logical_qubits_that_differ_drop_the_code() {
+    for k in [0, 1, 3, 4, 258, 512, 65_535] {
+        let calls = [ample(lost(0)), ample(logical(k)), ample(logical(2)), ample(ask(1))];
+        assert_eq!(on_four(&calls), [0, 17, 7, 7]);
+        let spoiled = [ample(lost(4)), ample(logical(k)), ample(row(X_ROW, &[0]))];
+        assert_eq!(on_four(&spoiled), [8, 17, 4]);
+    }
+    let alone = [sizes(5, 0, 0), logical(5), logical(0), logical(5)];
+    assert_eq!(numbers(&alone.map(ample)), [0, 0, 17, 7]);
+}
+
+#[test]
+fn logical_qubits_are_not_compared_on_short_lists() {
+    let tight = |k| (logical(k), Lent { short: false, room: 0, forms: 0 });
+    let calls = [short(logical(2)), short(logical(3)), ample(lost(0)), ample(lost(0))];
+    assert_eq!(on_four(&calls), [12, 12, 0, 9]);
+    assert_eq!(on_four(&[tight(2), tight(3), short(logical(3))]), [0, 17, 7]);
+}
+
+#[test]
 fn every_budget_decodes() {
     for budget in 0..=255 {
         assert_eq!(on_four(&[ample(lost(0)), ample(ask(budget))]), [0, 0]);
@@ -185,18 +219,19 @@ fn every_budget_decodes() {
 fn wild_streams_meet_every_refusal() {
     let mut random = Random::new(1);
     let mix = Mix { trouble: 30, wild: true, family: None };
-    let stream = records(&mut random, 500, mix);
+    let stream = records(&mut random, 5_000, mix);
     let calls = shortened(&mut random, stream, 3);
     let kinds = calls.iter().map(|(record, _)| record.first().copied());
     let met: Vec<_> = numbers(&calls).into_iter().zip(kinds).collect();
-    for number in 0..=12 {
+    for number in 0..=17 {
         let times = met.iter().filter(|(other, _)| *other == number).count();
-        assert!(if number == 10 { times == 0 } else { times > 10 }, "{number} met {times} times");
+        let unused = matches!(number, 10 | 13..=16);
+        assert!(if unused { times == 0 } else { times > 10 }, "{number} met {times} times");
     }
-    for kind in KINDS {
-        for number in [0, 2, 7, 8, 9, 12] {
-            let times = met.iter().filter(|call| **call == (number, Some(kind))).count();
-            assert!(times > 3, "{number} met {times} times at kind {kind}");
-        }
+    let named = KINDS.into_iter().flat_map(|kind| [0, 2, 7, 8, 9, 12].map(|number| (number, kind)));
+    let compared = [0, 2, 7, 12, 17].map(|number| (number, LOGICAL));
+    for (number, kind) in named.chain(compared) {
+        let times = met.iter().filter(|call| **call == (number, Some(kind))).count();
+        assert!(times > 3, "{number} met {times} times at kind {kind}");
     }
 }
