@@ -39,6 +39,8 @@ static int answer(const char *name, const size_t *numbers, size_t count) {
         print_record(rack_x_row(qubits, count));
     else if (strcmp(name, "z_row") == 0)
         print_record(rack_z_row(qubits, count));
+    else if (strcmp(name, "logical") == 0)
+        print_record(rack_logical(numbers[0]));
     else if (strcmp(name, "lost") == 0)
         print_record(rack_lost(numbers[0]));
     else if (strcmp(name, "lit_z") == 0)

@@ -12,7 +12,8 @@ static size_t record_length(uint8_t kind) {
     case RACK_KIND_LIT_Z:
     case RACK_KIND_LIT_X:
     case RACK_KIND_UNREAD_Z:
-    case RACK_KIND_UNREAD_X: return 3;
+    case RACK_KIND_UNREAD_X:
+    case RACK_KIND_LOGICAL: return 3;
     }
     if (RACK_KIND_X_ROW < kind && kind <= RACK_KIND_X_ROW + RACK_MOST_WEIGHT)
         return 1 + 2 * (size_t)(kind - RACK_KIND_X_ROW);

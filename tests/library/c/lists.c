@@ -1,4 +1,4 @@
-/* Document 01's printed example, and shots with an unread row, on lists from the heap that are exactly as long as they have to be: with nothing
+/* Document 01's printed example, shots with an unread row, and logical qubits compared, on lists from the heap that are exactly as long as they have to be: with nothing
  * in them, with garbage, and one of them too short. */
 #include "rack.h"
 
@@ -6,7 +6,7 @@
 #include <stdlib.h>
 
 enum { FLAT, ENDS, SHOT, WORK, X_MARKS, X_FORMS, X_CORRECTION, Z_MARKS, Z_FORMS, Z_CORRECTION, LISTS };
-enum { N = 4, FORMS = 4 * N, RECORDS = 15, DECODES = 2 };
+enum { N = 4, FORMS = 4 * N, RECORDS = 21, DECODES = 2 };
 
 static const char *const names[LISTS] = {
     "flat", "ends", "shot", "work", "x_marks", "x_forms", "x_correction", "z_marks", "z_forms", "z_correction"};
@@ -22,18 +22,24 @@ static const struct {
     {7, {1, 4, 0, 1, 0, 1, 0}, RACK_ANSWER_TAKEN, 0},
     {9, {36, 0, 0, 1, 0, 2, 0, 3, 0}, RACK_ANSWER_TAKEN, 0},
     {9, {68, 0, 0, 1, 0, 2, 0, 3, 0}, RACK_ANSWER_COMPLETE, 0},
+    {3, {8, 2, 0}, RACK_ANSWER_TAKEN, 0},
     {3, {2, 0, 0}, RACK_ANSWER_TAKEN, 0},
     {3, {2, 1, 0}, RACK_ANSWER_TAKEN, 0},
+    {3, {8, 2, 0}, RACK_ANSWER_TAKEN, 0},
     {3, {3, 0, 0}, RACK_ANSWER_TAKEN, 0},
     {4, {5, 1, 100, 0}, RACK_ANSWER_DECODED, 0},
     {3, {2, 4, 0}, RACK_ANSWER_REFUSED, RACK_REFUSAL_RANGE},
+    {3, {8, 2, 0}, RACK_ANSWER_TAKEN, 0},
     {4, {5, 1, 100, 0}, RACK_ANSWER_REFUSED, RACK_REFUSAL_SPOILED},
+    {3, {8, 2, 0}, RACK_ANSWER_TAKEN, 0},
     {3, {2, 2, 0}, RACK_ANSWER_TAKEN, 0},
     {3, {6, 0, 0}, RACK_ANSWER_TAKEN, 0},
     {4, {5, 1, 100, 0}, RACK_ANSWER_DECODED, 0},
     {3, {7, 0, 0}, RACK_ANSWER_TAKEN, 0},
     {3, {4, 0, 0}, RACK_ANSWER_REFUSED, RACK_REFUSAL_TWICE},
     {4, {5, 1, 100, 0}, RACK_ANSWER_REFUSED, RACK_REFUSAL_SPOILED},
+    {3, {8, 3, 0}, RACK_ANSWER_REFUSED, RACK_REFUSAL_ENCODED},
+    {3, {8, 2, 0}, RACK_ANSWER_REFUSED, RACK_REFUSAL_CODELESS},
 };
 
 /* What a decode reports of the X half and the Z half, and where its shot begins. The first has the Z row lit, the second has it unread. */
@@ -44,11 +50,11 @@ static const struct decode {
     uint64_t forms[2][FORMS];
     uint8_t flips[2][N];
 } decodes[DECODES] = {
-    {6, 3, {{RACK_WORD_UNSURE, 0, 2, 1, 1}, {RACK_WORD_UNSURE, 0, 2, 1, 1}},
+    {8, 4, {{RACK_WORD_UNSURE, 0, 2, 1, 1}, {RACK_WORD_UNSURE, 0, 2, 1, 1}},
      {{RACK_MARK_GUESSED, RACK_MARK_PEELED, RACK_MARK_NOT_LOST, RACK_MARK_NOT_LOST},
       {RACK_MARK_GUESSED, RACK_MARK_PEELED, RACK_MARK_NOT_LOST, RACK_MARK_NOT_LOST}},
      {{2, 0, 0, 0, 3}, {2, 0, 0, 0, 2}}, {{0, 1, 0, 0}, {0, 0, 0, 0}}},
-    {11, 9, {{RACK_WORD_UNSURE, 0, 1, 1, 1}, {RACK_WORD_CERTAIN, 0, 1, 0, 0}},
+    {15, 13, {{RACK_WORD_UNSURE, 0, 1, 1, 1}, {RACK_WORD_CERTAIN, 0, 1, 0, 0}},
      {{RACK_MARK_NOT_LOST, RACK_MARK_NOT_LOST, RACK_MARK_GUESSED, RACK_MARK_NOT_LOST},
       {RACK_MARK_NOT_LOST, RACK_MARK_NOT_LOST, RACK_MARK_PEELED, RACK_MARK_NOT_LOST}},
      {{0, 0, 0, 0, 0, 0, 0, 0, 2}, {0}}, {{0, 0, 0, 0}, {0, 0, 0, 0}}},
@@ -181,7 +187,7 @@ static void one_short(int list, size_t length, int record) {
     run(&lent, 0, record);
     cut = copy(&lent, list, length);
     reply = step(&cut, record);
-    expect(reply.refusal == (counts ? RACK_REFUSAL_SHORT : 0), record, "the refusal of a short list");
+    expect(reply.refusal == (counts ? RACK_REFUSAL_SHORT : records[record].refusal), record, "the refusal of a short list");
     if (counts) {
         expect(same(&cut, &lent), record, "as it was");
         lent.state = cut.state;
@@ -207,7 +213,7 @@ int main(void) {
     end_case("garbage", " in the lists");
     for (int list = 0; list < LISTS; list++) {
         for (int record = 0; record < RECORDS; record++) {
-            if (records[record].answer == RACK_ANSWER_REFUSED)
+            if (records[record].answer == RACK_ANSWER_REFUSED && records[record].refusal != RACK_REFUSAL_ENCODED)
                 continue;
             one_short(list, least[list] - 1, record);
             one_short(list, 0, record);

@@ -10,7 +10,7 @@ use judge::random::Random;
 /// Lists somewhat longer than they need to be.
 pub fn agrees(seed: u64, shots: usize) -> Checked {
     let session = run(seed, shots, 1, Lengths::above)?;
-    session.caller.tally.all(11)
+    session.caller.tally.all_but_short()
 }
 
 /// Shots whose guesses are in every word of a form, without refusals, which would spoil most of them.
@@ -30,7 +30,7 @@ pub fn words(seed: u64, shots: usize) -> Checked {
 /// Lists some times their least length: what is past it stays.
 pub fn longer(seed: u64, shots: usize) -> Checked {
     let session = run(seed, shots, TIMES, Lengths::longer)?;
-    session.caller.tally.all(11)
+    session.caller.tally.all_but_short()
 }
 
 /// For each family a stream of its codes, and one of all codes with more trouble.

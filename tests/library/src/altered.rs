@@ -8,12 +8,12 @@ use judge::codes::{QUBITS, ROWS, WEIGHT};
 use judge::families::Family;
 use judge::generate::{records, Mix};
 use judge::half::Asked;
-use judge::judge::ensure;
+use judge::judge::{ensure, Judged};
 use judge::random::Random;
 use judge::records as made;
 use judge::shot::KINDS;
-use judge::stream::{Record, X_ROW, Z_ROW};
-use rack::raw::{answer, phase};
+use judge::stream::{Record, LOGICAL, X_ROW, Z_ROW};
+use rack::raw::{answer, phase, refusal, Reply};
 
 const SMALL: [Family; 4] = [Family::Bench, Family::Pair, Family::Surface, Family::Joined];
 
@@ -22,26 +22,45 @@ const SMALL: [Family; 4] = [Family::Bench, Family::Pair, Family::Surface, Family
 pub fn altered(seed: u64, shots: usize) -> Checked {
     let mut random = Random::new(seed);
     let mut session = Session::new(random.word(), 1);
-    let mut decodes = 0;
+    let mut done = Done::default();
     for _ in 0..shots.div_ceil(20) {
         watch::case();
         session.restart();
-        decodes += run(&mut session, &mut random)?;
+        run(&mut session, &mut random, &mut done)?;
         let mix = Mix { trouble: 5, wild: true, family: None };
         session.begin();
         session.calls(&records(&mut random, 2, mix), Lengths::above)?;
     }
     let tally = session.caller.tally;
-    ensure(decodes > 0 || !tally.enough(), || "no decode while altered".into())?;
-    Ok(format!("{tally}; {decodes} decodes while altered"))
+    ensure(done.met() || !tally.enough(), || format!("not all was met: {done:?}"))?;
+    Ok(format!("{tally}; while altered {done:?}"))
 }
 
-/// A stream with lists or state altered and some records replaced; the number of decodes.
-fn run(session: &mut Session, random: &mut Random) -> Result<usize, String> {
+/// What was done while lists or state were altered.
+#[derive(Default, Debug)]
+struct Done {
+    decodes: usize,
+    /// Records of kind 8 that agreed or differed.
+    compared: usize,
+}
+
+impl Done {
+    fn add(&mut self, record: &[u8], reply: &Reply) {
+        let agreed = reply.answer == answer::TAKEN && record[0] == LOGICAL;
+        self.compared += usize::from(agreed || reply.refusal == refusal::ENCODED);
+        self.decodes += usize::from(reply.answer == answer::DECODED);
+    }
+
+    fn met(&self) -> bool {
+        self.decodes.min(self.compared) > 0
+    }
+}
+
+/// A stream with lists or state altered and some records replaced.
+fn run(session: &mut Session, random: &mut Random, done: &mut Done) -> Judged {
     let [lists, state, other] = random.pick(&[[20, 0, 0], [0, 20, 50], [10, 20, 80]]);
     let mix = Mix { trouble: 5, wild: true, family: Some(random.pick(&SMALL)) };
     let caller = &mut session.caller;
-    let mut decodes = 0;
     for record in records(random, 4, mix) {
         let record = if random.percent(other) { any_record(random) } else { record };
         let ready = caller.state.phase == phase::READY;
@@ -55,10 +74,15 @@ fn run(session: &mut Session, random: &mut Random) -> Result<usize, String> {
         }
         let lengths = Lengths::above(random, QUBITS);
         let short = random.percent(5).then(|| lengths.clone().shortened(random, QUBITS));
+        let before = caller.state;
         let reply = caller.call(&record, &short.unwrap_or(lengths))?;
-        decodes += usize::from(reply.answer == answer::DECODED);
+        done.add(&record, &reply);
+        if reply.refusal == refusal::ENCODED && random.percent(80) {
+            // Rows that were altered seldom encode what is sent: the code is taken up again.
+            caller.state = before;
+        }
     }
-    Ok(decodes)
+    Ok(())
 }
 
 /// A record of a known kind with any numbers, or any bytes.
@@ -70,6 +94,7 @@ fn any_record(random: &mut Random) -> Record {
         1 => made::row(row, &random.subset(QUBITS, 1, WEIGHT)),
         2 => (0..random.below(40)).map(|_| random.word() as u8).collect(),
         3..=9 => made::number(kind, number(random, QUBITS)),
+        10 => made::logical(number(random, QUBITS)),
         _ => made::decode(Asked { budget: number(random, 255), limit: number(random, 65_535) }),
     }
 }

@@ -76,7 +76,7 @@ impl Caller {
         }
     }
 
-    /// One call; what is outside the lists and the record must stay, and after a refusal every list.
+    /// One call; what is outside the lists and the record must stay, and after a refusal and after kind 8 every list.
     pub fn call(&mut self, record: &[u8], lengths: &Lengths) -> Result<Reply, String> {
         watch::record(record, || lengths.short(self.needed(record)));
         for list in 0..NAMES.len() {
@@ -93,7 +93,7 @@ impl Caller {
         let step = |bytes: &[u8]| watch::call(|| call(bytes));
         let reply = self.record.locked(step);
         self.state = reply.state;
-        if reply.answer == answer::REFUSED {
+        if reply.answer == answer::REFUSED || record.first() == Some(&kind::LOGICAL) {
             self.unwritten()?;
         }
         for (held, list) in self.held.iter_mut().zip(&self.lists) {
@@ -111,7 +111,7 @@ impl Caller {
         (0..NAMES.len()).try_for_each(|list| {
             let from = self.held.get(list).unwrap_or(&self.garbage);
             let same = self.lists[list].list() == &from[self.lent[list].clone()];
-            ensure(same, || format!("a refusal wrote {}", NAMES[list]))
+            ensure(same, || format!("a refusal or kind 8 wrote {}", NAMES[list]))
         })
     }
 

@@ -24,5 +24,5 @@ pub fn garbage(seed: u64, shots: usize) -> Checked {
         }
     }
     let [first, second] = callers;
-    first.tally.and(&second.tally).all(11)
+    first.tally.and(&second.tally).all_but_short()
 }

@@ -11,6 +11,7 @@ pub mod guard;
 pub mod large;
 pub mod larger;
 pub mod lengths;
+pub mod logical;
 pub mod makers;
 pub mod mirror;
 pub mod numbers;

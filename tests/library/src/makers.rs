@@ -76,6 +76,11 @@ fn names() -> Vec<Asking> {
         "spoiled",
         "short",
         "no refusal",
+        "no refusal",
+        "no refusal",
+        "no refusal",
+        "encoded",
+        "no refusal",
     ];
     let words = (0..).zip(words).map(|(number, expected)| {
         asking("word", number, expected, Word::try_from(number).ok().map(Word::name))
@@ -92,7 +97,7 @@ fn any(random: &mut Random) -> Asking {
     let number = |number: usize| number.min(65_535);
     let row: Vec<u16> = (0..random.below(40)).map(|_| any_number(random) as u16).collect();
     let qubits: Row = row.iter().map(|&qubit| qubit.into()).collect();
-    match random.below(9) {
+    match random.below(10) {
         0 => asked("sizes", &[a, b, c], made::sizes(number(a), number(b), number(c)), {
             rack::Record::sizes(a, b, c)
         }),
@@ -103,6 +108,7 @@ fn any(random: &mut Random) -> Asking {
         5 => asked("lit_x", &[a], made::number(4, number(a)), rack::Record::lit_x(a)),
         6 => asked("unread_z", &[a], made::number(6, number(a)), rack::Record::unread_z(a)),
         7 => asked("unread_x", &[a], made::number(7, number(a)), rack::Record::unread_x(a)),
+        8 => asked("logical", &[a], made::logical(number(a)), rack::Record::logical(a)),
         _ => {
             let expected = Asked { budget: a.min(255), limit: number(b) };
             asked("decode", &[a, b], made::decode(expected), rack::Record::decode(a, b))

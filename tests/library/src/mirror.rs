@@ -2,10 +2,11 @@
 
 use crate::lengths::{Lengths, HELD};
 use crate::report::half;
+use judge::compared::Compared;
 use judge::half::Report;
 use judge::machine;
 use judge::shot::Decode;
-use judge::stream::{Answer, Model};
+use judge::stream::{Answer, Model, LOGICAL};
 use judge::wrong::Wrong;
 use rack::raw::{answer, phase, Reply, State};
 
@@ -28,6 +29,8 @@ pub struct Mirror {
     code: State,
     /// Whether `shot` still holds an earlier one.
     stale: bool,
+    /// What records of kind 8 met, since the first start.
+    pub compared: Compared,
 }
 
 /// What the header says of a reply: of a state its phase, and the code where there is one.
@@ -42,14 +45,21 @@ impl Mirror {
     /// A fresh start on these lists.
     pub fn new(held: &[Vec<u8>; HELD]) -> Mirror {
         let (model, held) = (Model::new(Wrong::Nothing), held.clone());
-        Mirror { model, held, code: State::default(), stale: true }
+        let compared = Compared::default();
+        Mirror { model, held, code: State::default(), stale: true, compared }
+    }
+
+    /// Another fresh start.
+    pub fn begin(&mut self, held: &[Vec<u8>; HELD]) {
+        let compared = std::mem::take(&mut self.compared);
+        *self = Mirror { compared, ..Mirror::new(held) };
     }
 
     /// What a call hands back, and what a decode works on.
     pub fn step(&mut self, record: &[u8], lengths: &Lengths) -> (Reply, Option<Decoded>) {
         let mut reply = Reply::default();
         let mut decoded = None;
-        match self.model.step(record, lengths.lent()) {
+        match self.compared.step(&mut self.model, record, lengths.lent()) {
             Answer::Refused { number, kind } => {
                 self.stale |= kind == 5 && !matches!(number, 2 | 7);
                 (reply.answer, reply.refusal) = (answer::REFUSED, number.into());
@@ -98,6 +108,7 @@ impl Mirror {
                 self.begun();
                 self.stale = true;
             }
+            LOGICAL => {}
             _ => self.row(&record[1..]),
         }
     }

@@ -5,7 +5,7 @@ use judge::codes::{QUBITS, ROWS, WEIGHT};
 use judge::form::WORDS;
 use judge::half::{mark as judged, Asked};
 use judge::judge::{ensure, Judged};
-use judge::stream::{X_ROW, Z_ROW};
+use judge::stream::{LOGICAL, X_ROW, Z_ROW};
 use rack::raw::mark;
 use rack::{lent, Mark, Refusal, Word};
 
@@ -90,7 +90,7 @@ fn names(header: &Numbers) -> Judged {
     for number in 0..=u16::MAX {
         let word = Word::try_from(number).is_ok_and(|word| word.number() == number);
         let refusal = Refusal::try_from(number).is_ok_and(|why| why.number() == number);
-        let known = [matches!(number, 1..=5), matches!(number, 1..=9 | 11 | 12)];
+        let known = [matches!(number, 1..=5), matches!(number, 1..=9 | 11 | 12 | 17)];
         ensure([word, refusal] == known, || format!("{number} is read as a word or a refusal"))?;
     }
     for number in 0..=u8::MAX {
@@ -140,7 +140,7 @@ fn judge(header: &Numbers) -> Judged {
     let Asked { budget, limit } = Asked::AMPLE;
     let most = [QUBITS, ROWS, WEIGHT, budget, limit];
     let marks = [judged::NOT_LOST, judged::FIXED, judged::PEELED, judged::GUESSED, judged::OPEN];
-    let kinds = [1, 2, 3, 4, 5, 6, 7, X_ROW, Z_ROW];
+    let kinds = [1, 2, 3, 4, 5, 6, 7, LOGICAL, X_ROW, Z_ROW];
     let lists = [16_384, 1_024, 2_048, 10_240, QUBITS, WORDS * QUBITS, QUBITS];
     for (prefix, known) in [
         ("MOST_", most.to_vec()),

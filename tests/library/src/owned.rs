@@ -1,6 +1,7 @@
 //! The Rust crate's rack, with lists of its own, against the model.
 
 use crate::{watch, Checked};
+use judge::codes::Code;
 use judge::generate::{records, Mix};
 use judge::half::Report;
 use judge::judge::{ensure, Judged};
@@ -28,6 +29,7 @@ pub fn owned(seed: u64, shots: usize) -> Checked {
         }
         odd_rows(&mut rack)?;
         halves(&mut rack).map_err(|error| error.to_string())??;
+        logical(&mut rack)?;
     }
     Ok(format!("{calls} calls"))
 }
@@ -85,11 +87,7 @@ fn odd_rows(rack: &mut Rack) -> Judged {
 /// Z rows are about the X half, X rows about the Z half: document 01's P10 with all rows of a kind
 /// lit, and unread, which leaves too much to guess.
 fn halves(rack: &mut Rack) -> Result<Judged, Error> {
-    let code = seven();
-    let row = |row: &Vec<usize>| -> Vec<u16> { row.iter().map(|&qubit| qubit as u16).collect() };
-    rack.sizes(code.n, code.x.len(), code.z.len())?;
-    code.x.iter().try_for_each(|x| rack.x_row(&row(x)).map(drop))?;
-    code.z.iter().try_for_each(|z| rack.z_row(&row(z)).map(drop))?;
+    load(rack, &seven())?;
     let mut shot = |name: fn(&mut Rack, usize) -> Result<Answer<'_>, Error>| {
         [0, 2, 4, 6].into_iter().try_for_each(|qubit| rack.lost(qubit).map(drop))?;
         (0..3).try_for_each(|row| name(rack, row).map(drop))?;
@@ -106,4 +104,23 @@ fn halves(rack: &mut Rack) -> Result<Judged, Error> {
         [zero, unread],
     ];
     Ok(ensure(flips == expected, || format!("{flips:?} should be {expected:?}")))
+}
+
+/// Document 01's Seven encodes 1 qubit; where it is said to encode another number there is none.
+fn logical(rack: &mut Rack) -> Judged {
+    for other in [0, 2, 4, 257, 65_535, 65_537] {
+        load(rack, &seven()).map_err(|error| error.to_string())?;
+        let agrees = rack.logical(1) == Ok(Answer::Taken) && rack.lost(0).is_ok();
+        let differs = rack.logical(other) == Err(Error::Refused(Refusal::Encoded));
+        let codeless = rack.logical(1) == Err(Error::Refused(Refusal::Codeless));
+        ensure(agrees && differs && codeless, || format!("1 and {other} logical qubits"))?;
+    }
+    Ok(())
+}
+
+fn load(rack: &mut Rack, code: &Code) -> Result<(), Error> {
+    let row = |row: &Vec<usize>| -> Vec<u16> { row.iter().map(|&qubit| qubit as u16).collect() };
+    rack.sizes(code.n, code.x.len(), code.z.len())?;
+    code.x.iter().try_for_each(|x| rack.x_row(&row(x)).map(drop))?;
+    code.z.iter().try_for_each(|z| rack.z_row(&row(z)).map(drop))
 }

@@ -7,7 +7,7 @@ use crate::report;
 use judge::judge::{ensure, verdict, Judged};
 use judge::random::Random;
 use judge::stream::Record;
-use rack::raw::Reply;
+use rack::raw::{kind, phase, refusal, Reply, State};
 
 pub struct Session {
     pub caller: Caller,
@@ -27,13 +27,22 @@ impl Session {
     /// A fresh start, with anything in the lists.
     pub fn restart(&mut self) {
         self.caller.restart();
-        self.mirror = Mirror::new(&self.caller.held);
+        self.mirror.begin(&self.caller.held);
     }
 
     /// A fresh start on the lists as they are.
     pub fn begin(&mut self) {
         self.caller.begin();
-        self.mirror = Mirror::new(&self.caller.held);
+        self.mirror.begin(&self.caller.held);
+    }
+
+    /// Fails if records of kind 8 did not meet everything.
+    pub fn compared(&self) -> Judged {
+        self.mirror
+            .compared
+            .counts()
+            .iter()
+            .try_for_each(|(what, times)| ensure(*times > 0, || format!("{what}: never")))
     }
 
     pub fn calls(&mut self, records: &[Record], draw: Draw) -> Judged {
@@ -51,8 +60,12 @@ impl Session {
     /// One call, equal to the model's in the reply and in each element of each list.
     pub fn call(&mut self, record: &[u8], lengths: &Lengths) -> Result<Reply, String> {
         let (expected, decoded) = self.mirror.step(record, lengths);
+        let before = self.caller.state;
         let reply = self.caller.call(record, lengths)?;
         ensure(told(reply) == expected, || format!("{reply:?} should be {expected:?}"))?;
+        if record.first() == Some(&kind::LOGICAL) {
+            kept_by_logical(before, &reply)?;
+        }
         for list in 0..HELD {
             same(list, 0, &self.mirror.held[list], &self.caller.held[list])?;
         }
@@ -84,6 +97,16 @@ impl Session {
         let rest = from * WIDTHS[list]..;
         same(list, from, &self.caller.before(list)[rest.clone()], &self.caller.after(list)[rest])
     }
+}
+
+/// Kind 8 leaves each part of the state as it was, but for the phase where it drops the code; of another length it spoils.
+fn kept_by_logical(before: State, reply: &Reply) -> Judged {
+    let expected = match reply.refusal {
+        refusal::LENGTH => State { spoiled: reply.state.spoiled, ..before },
+        refusal::ENCODED => State { phase: phase::EMPTY, ..before },
+        _ => before,
+    };
+    ensure(reply.state == expected, || format!("{before:?} became {:?}", reply.state))
 }
 
 /// Whether a list is as expected from element `from` on.

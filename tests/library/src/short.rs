@@ -12,7 +12,7 @@ use judge::losses;
 use judge::random::Random;
 use judge::records;
 use judge::shot::{alike, size, KINDS};
-use judge::stream::{Record, X_ROW, Z_ROW};
+use judge::stream::{Record, LOGICAL, X_ROW, Z_ROW};
 use rack::raw::refusal::SHORT;
 
 /// Each list short at each kind of record, for some codes.
@@ -48,7 +48,7 @@ pub fn any_short(seed: u64, shots: usize) -> Checked {
             session.call(record, &lengths)?;
         }
     }
-    session.caller.tally.all(12)
+    session.caller.tally.all()
 }
 
 /// A small code with rows of both kinds.
@@ -62,7 +62,7 @@ fn small(random: &mut Random) -> Code {
 }
 
 fn each_short(session: &mut Session, random: &mut Random, code: &Code) -> Judged {
-    for kinds in [&[1, X_ROW, Z_ROW, 2, 3, 4, 5][..], &[6, 7]] {
+    for kinds in [&[1, X_ROW, Z_ROW, 2, 3, 4, 5][..], &[6, 7, LOGICAL]] {
         let shot = shot(random, code, kinds);
         let records = [records::load(code), shot.clone()].concat();
         for at in places(&records, kinds) {
@@ -82,7 +82,7 @@ fn each_short(session: &mut Session, random: &mut Random, code: &Code) -> Judged
     Ok(())
 }
 
-/// A decode with number 0 of each of these kinds in the shot.
+/// A decode with number 0 of each of these kinds in the shot, and the code's logical qubits if they have kind 8.
 fn shot(random: &mut Random, code: &Code, kinds: &[u8]) -> Vec<Record> {
     let mut shot = losses::shot(random, code);
     for kind in KINDS.into_iter().filter(|kind| kinds.contains(kind)) {
@@ -91,7 +91,9 @@ fn shot(random: &mut Random, code: &Code, kinds: &[u8]) -> Vec<Record> {
         shot.set_mut(kind).insert(0);
     }
     let asked = losses::asked(random, code, &shot);
-    [records::shot(&shot), vec![records::decode(asked)]].concat()
+    let logical = kinds.contains(&LOGICAL).then(|| records::logical(code.k()));
+    let last = logical.into_iter().chain([records::decode(asked)]);
+    records::shot(&shot).into_iter().chain(last).collect()
 }
 
 /// The first record of each of these kinds, and the last row.

@@ -37,10 +37,21 @@ impl Tally {
         Ok(())
     }
 
-    /// Fails if many calls did not meet every word and the refusals up to a number.
-    pub fn all(&self, last: u16) -> Checked {
-        let upto = Refusal::ALL.iter().filter(|why| why.number() <= last).count();
-        let met = self.words.iter().chain(&self.refusals[..upto]).all(|&count| count > 0);
+    /// Fails if many calls did not meet every word and every refusal.
+    pub fn all(&self) -> Checked {
+        self.all_of(Refusal::ALL)
+    }
+
+    /// The same where no list is short.
+    pub fn all_but_short(&self) -> Checked {
+        let others = Refusal::ALL.iter().copied().filter(|&why| why != Refusal::Short);
+        self.all_of(&others.collect::<Vec<Refusal>>())
+    }
+
+    fn all_of(&self, refusals: &[Refusal]) -> Checked {
+        let count = |why: &Refusal| self.refusals[place(why.number()).expect("a refusal")];
+        let met =
+            self.words.iter().copied().chain(refusals.iter().map(count)).all(|count| count > 0);
         ensure(met || !self.enough(), || format!("not all was met: {self}"))?;
         Ok(self.to_string())
     }
