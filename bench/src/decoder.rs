@@ -4,7 +4,7 @@ use crate::eliminate::{Found, Half, Shot};
 use crate::matrix::Matrix;
 use judge::codes::Code;
 use judge::half::Row;
-use judge::stream::X_ROW;
+use judge::stream::{LOGICAL, X_ROW};
 
 pub struct Decoder {
     pub code: Code,
@@ -53,6 +53,7 @@ impl Decoder {
             3 | 4 => self.lit[usize::from(kind - 3)].push(number(body)),
             5 => return self.decode(),
             6 | 7 => self.unread[usize::from(kind - 6)].push(number(body)),
+            LOGICAL => {} // trusted too
             _ => {
                 let row = body.chunks_exact(2).map(|pair| number(pair).into());
                 return self.take_row(kind & X_ROW != 0, row.collect());
