@@ -3,7 +3,8 @@
 //! First a code without rows and shots on it, without a loss at first, whose answers are many times as long as
 //! their records. Then a code whose rows have one qubit each, the Z rows the first qubits and the X rows the
 //! others: every lost qubit that is lit is flipped, so that lines are long, and one whose row is not read is a
-//! guess. Some records are refused, and the last one is cut off.
+//! guess. Logical qubits are compared now and then. Some records are refused, the last ones without a code, and the last of
+//! all is cut off.
 
 use crate::random::Random;
 
@@ -23,6 +24,7 @@ const LIT_Z: u8 = 3;
 const LIT_X: u8 = 4;
 const UNREAD_Z: u8 = 6;
 const UNREAD_X: u8 = 7;
+const LOGICAL: u8 = 8;
 
 fn record(kind: u8, numbers: &[usize], lines: &[&str]) -> Record {
     let low = |number: &usize| (*number as u16).to_le_bytes();
@@ -50,6 +52,8 @@ pub fn stream(seed: u64, empty: usize, few: usize, many: usize) -> Vec<Record> {
     for _ in 0..many {
         shot(&mut records, &mut random, LARGE, ROWS);
     }
+    records.push(record(LOGICAL, &[1], &["refused 17 8\n"]));
+    records.push(record(LOST, &[0], &["refused 7 2\n"]));
     records.push(record(LOST, &[0], &["refused 2 2\n"]));
     records.last_mut().expect("just put").bytes.pop();
     records
@@ -63,7 +67,8 @@ fn load(records: &mut Vec<Record>) {
     records.last_mut().expect("rows").lines.push("code 512 256 256\n".into());
 }
 
-/// Lost qubits, where there are rows most of them lit and some unread, and the decode; sometimes one that is refused.
+/// Lost qubits, where there are rows most of them lit and some unread, sometimes the logical qubits, and the decode; sometimes one
+/// that is refused.
 fn shot(records: &mut Vec<Record>, random: &mut Random, n: usize, rows: usize) {
     let chance = [3, 30, 97][random.below(3)];
     let mut named = None;
@@ -77,6 +82,10 @@ fn shot(records: &mut Vec<Record>, random: &mut Random, n: usize, rows: usize) {
             records.push(record(kind, &[row], &[]));
             named = Some((unread, row));
         }
+    }
+    if random.percent(20) {
+        // Each row has a qubit of its own, of both kinds.
+        records.push(record(LOGICAL, &[n - 2 * rows], &[]));
     }
     match (random.below(24), named, lost.first()) {
         (0, ..) => spoiled(records, record(LOST, &[n], &["refused 8 2\n"])),

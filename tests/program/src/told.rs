@@ -11,13 +11,15 @@ use std::time::Duration;
 type Checked = Result<(), String>;
 type Case = fn(&Setup) -> Checked;
 
-pub const ALL: [(&str, Case); 12] = [
+pub const ALL: [(&str, Case); 14] = [
     ("told of an empty input", empty),
     ("told of a directory", directory),
     ("told of a code one row short", short_code),
     ("told of text instead of records", text),
     ("told of a clean run", clean),
     ("told of a shot left open", open_shot),
+    ("told of logical qubits that agree", agreeing),
+    ("told of logical qubits that differ", differing),
     ("told of a run of equal refusals", equal_refusals),
     ("told of each refusal", each_refusal),
     ("an input that does not wait", does_not_wait),
@@ -31,6 +33,9 @@ const SIZES: &[u8] = &[1, 4, 0, 1, 0, 1, 0];
 const X_ROW: &[u8] = &[36, 0, 0, 1, 0, 2, 0, 3, 0];
 const Z_ROW: &[u8] = &[68, 0, 0, 1, 0, 2, 0, 3, 0];
 const DECODE: &[u8] = &[5, 1, 100, 0];
+/// The code four encodes 2 qubits.
+const LOGICAL: &[u8] = &[8, 2, 0];
+const OTHER: &[u8] = &[8, 13, 0];
 
 fn lost(qubit: u8) -> Vec<u8> {
     vec![2, qubit, 0]
@@ -91,7 +96,7 @@ fn short_code(setup: &Setup) -> Checked {
 }
 
 fn text(setup: &Setup) -> Checked {
-    let expected = "shots: record 1 at byte 0, kind 104: refused 1 unknown: kinds 1 to 7, 33 to 48 and 65 to 80 wanted\n\
+    let expected = "shots: record 1 at byte 0, kind 104: refused 1 unknown: kinds 1 to 8, 33 to 48 and 65 to 80 wanted\n\
         shots: 1 byte, 1 record, 0 codes, 0 decodes, 1 refusal\n";
     told(setup, b"hello\n", "refused 1 104\n", expected)
 }
@@ -121,6 +126,35 @@ fn open_shot(setup: &Setup) -> Checked {
          shots: 28 bytes, 4 records, 1 code, 0 decodes, 1 refusal\n{left}"
     );
     told(setup, &input, "code 4 1 1\nrefused 8 2\n", &expected)
+}
+
+/// After the last row, in an open shot, in a spoiled one and after a decode.
+fn agreeing(setup: &Setup) -> Checked {
+    let before = [four(), LOGICAL.to_vec(), lost(0), LOGICAL.to_vec(), lost(1)].concat();
+    let shot = [vec![3, 0, 0], LOGICAL.to_vec(), DECODE.to_vec(), LOGICAL.to_vec()].concat();
+    let lines = "code 4 1 1\nX unsure 0 2 1 1 flip 1\nZ unsure 0 2 1 1 flip\n";
+    let expected = "shots: 50 bytes, 11 records, 1 code, 1 decode, 0 refusals\n";
+    told(setup, &[&before[..], &shot].concat(), lines, expected)?;
+    let spoiled = [four(), lost(4), LOGICAL.to_vec(), DECODE.to_vec()].concat();
+    let expected = "shots: record 4 at byte 25, kind 2: refused 8 range: qubit 4 of 4 qubits\n\
+        shots: record 6 at byte 31, kind 5: refused 11 spoiled: a record of this shot was refused\n\
+        shots: 35 bytes, 6 records, 1 code, 0 decodes, 2 refusals\n";
+    told(setup, &spoiled, "code 4 1 1\nrefused 8 2\nrefused 11 5\n", expected)
+}
+
+/// The shot is dropped with the code, which is loaded again.
+fn differing(setup: &Setup) -> Checked {
+    let dropped = [four(), lost(0), OTHER.to_vec(), LOGICAL.to_vec(), lost(1)].concat();
+    let lines = "code 4 1 1\nrefused 17 8\nrefused 7 8\nrefused 7 2\n";
+    let refused = "shots: record 5 at byte 28, kind 8: refused 17 encoded: the rows do not encode 13 qubits\n\
+        shots: record 6 at byte 31, kind 8: refused 7 codeless: no code is loaded\n\
+        shots: 1 more refused with 7\n";
+    let expected = format!("{refused}shots: 37 bytes, 7 records, 1 code, 0 decodes, 3 refusals\n");
+    told(setup, &dropped, lines, &expected)?;
+    let again = [dropped, four(), LOGICAL.to_vec(), lost(2), DECODE.to_vec()].concat();
+    let lines = format!("{lines}code 4 1 1\nX certain 0 1 0 0 flip\nZ certain 0 1 0 0 flip\n");
+    let expected = format!("{refused}shots: 72 bytes, 13 records, 2 codes, 1 decode, 3 refusals\n");
+    told(setup, &again, &lines, &expected)
 }
 
 fn equal_refusals(setup: &Setup) -> Checked {
@@ -155,11 +189,12 @@ fn wanted(setup: &Setup, records: &[&[u8]], expected: &str) -> Checked {
 #[rustfmt::skip]
 fn each_refusal(setup: &Setup) -> Checked {
     let odd: &[u8] = &[65, 0, 0];
-    let cases: [(&[&[u8]], &str); 27] = [
-        (&[&[8]], "1 unknown: kinds 1 to 7, 33 to 48 and 65 to 80 wanted"),
+    let cases: [(&[&[u8]], &str); 35] = [
+        (&[&[9]], "1 unknown: kinds 1 to 8, 33 to 48 and 65 to 80 wanted"),
         (&[&[1, 4, 0]], "2 length: cut off, 3 of 7 bytes"),
         (&[&[6]], "2 length: cut off, 1 of 3 bytes"),
         (&[&[7, 0]], "2 length: cut off, 2 of 3 bytes"),
+        (&[&[8]], "2 length: cut off, 1 of 3 bytes"),
         (&[&[1, 1, 4, 1, 0, 3, 2]], "3 size: 1025 qubits, 1 X rows, 515 Z rows; 1 to 1024 and up to 512 of each wanted"),
         (&[X_ROW], "4 place: no code is loading"),
         (&[SIZES, Z_ROW], "4 place: row 0 of 1 X rows awaited"),
@@ -171,6 +206,8 @@ fn each_refusal(setup: &Setup) -> Checked {
         (&[SIZES, X_ROW, DECODE], "7 codeless: code incomplete: 1 of 2 rows"),
         (&[&[6, 0, 0]], "7 codeless: no code is loaded"),
         (&[SIZES, X_ROW, &[7, 0, 0]], "7 codeless: code incomplete: 1 of 2 rows"),
+        (&[LOGICAL], "7 codeless: no code is loaded"),
+        (&[SIZES, X_ROW, LOGICAL], "7 codeless: code incomplete: 1 of 2 rows"),
         (&[SIZES, X_ROW, Z_ROW, &[2, 144, 0]], "8 range: qubit 144 of 4 qubits"),
         (&[SIZES, X_ROW, Z_ROW, &[3, 1, 0]], "8 range: Z row 1 of 1 Z rows"),
         (&[SIZES, X_ROW, Z_ROW, &[4, 1, 1]], "8 range: X row 257 of 1 X rows"),
@@ -183,6 +220,11 @@ fn each_refusal(setup: &Setup) -> Checked {
         (&[SIZES, X_ROW, Z_ROW, &[6, 0, 0], &[6, 0, 0]], "9 twice: Z row 0 is in this shot already"),
         (&[SIZES, X_ROW, Z_ROW, &[4, 0, 0], &[7, 0, 0]], "9 twice: X row 0 is in this shot already"),
         (&[SIZES, X_ROW, Z_ROW, &[2, 3]], "2 length: cut off, 2 of 3 bytes"),
+        (&[SIZES, X_ROW, Z_ROW, &[8, 2]], "2 length: cut off, 2 of 3 bytes"),
+        (&[SIZES, X_ROW, Z_ROW, OTHER], "17 encoded: the rows do not encode 13 qubits"),
+        (&[SIZES, X_ROW, Z_ROW, LOGICAL, &[2, 3, 0], &[8, 0, 0]], "17 encoded: the rows do not encode 0 qubits"),
+        (&[SIZES, X_ROW, Z_ROW, &[8, 0, 2]], "17 encoded: the rows do not encode 512 qubits"),
+        (&[SIZES, X_ROW, Z_ROW, &[8, 255, 255]], "17 encoded: the rows do not encode 65535 qubits"),
     ];
     cases.iter().try_for_each(|(records, expected)| wanted(setup, records, expected))
 }
@@ -220,7 +262,7 @@ fn help(setup: &Setup) -> Checked {
 
 fn version(setup: &Setup) -> Checked {
     let actual = argument(setup, &["--version"])?;
-    same("standard output", &actual.0, "shots 4\n")?;
+    same("standard output", &actual.0, "shots 5\n")?;
     same("standard error", &actual.1, "")
 }
 
