@@ -7,7 +7,7 @@
 #include <stdio.h>
 #include <stdlib.h>
 
-enum { N = 7, ROWS = 3, WEIGHT = 4, SHOTS = 1000, LOST_ONE_IN = 4 };
+enum { N = 7, ROWS = 3, WEIGHT = 4, LOGICAL = 1, SHOTS = 1000, LOST_ONE_IN = 4 };
 
 /* The X rows, and the Z rows too. */
 static const uint16_t rows[ROWS][WEIGHT] = {{0, 2, 4, 6}, {1, 2, 5, 6}, {3, 4, 5, 6}};
@@ -99,6 +99,7 @@ static void load(void) {
         take(rack_x_row(rows[row], WEIGHT));
     for (size_t row = 0; row < ROWS; row++)
         take(rack_z_row(rows[row], WEIGHT));
+    take(rack_logical(LOGICAL));
 }
 
 /* Z rows fire on X errors, X rows on Z errors. */

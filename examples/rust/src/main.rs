@@ -8,6 +8,7 @@ use rack::{Error, Half, Rack, Report, Word};
 use std::process::ExitCode;
 
 const N: usize = 7;
+const LOGICAL: usize = 1;
 const SHOTS: usize = 1000;
 const LOST_ONE_IN: u64 = 4;
 
@@ -64,6 +65,7 @@ fn load(rack: &mut Rack) -> Result<(), Error> {
     for row in ROWS {
         rack.z_row(&row)?;
     }
+    rack.logical(LOGICAL)?;
     Ok(())
 }
 
