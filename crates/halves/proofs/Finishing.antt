@@ -11,7 +11,7 @@ use Rattle.machine.specs.declared.Word.the-variants.{Certain, Unsure, None, Spe
 use Rattle.machine.specs.Words.{finished?}
 use Rattle.machine.specs.Report.{none?}
 use Rattle.lists.specs.Cleared.{Cleared}
-use Rattle.starting.specs.Fills.{Filled}
+use Rattle.lists.specs.Filled.{Filled}
 use Rattle.halves.specs.Starts.{Finished}
 
 -- A list that is cleared from its start.

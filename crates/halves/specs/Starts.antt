@@ -22,7 +22,7 @@ use Rattle.machine.specs.Words.{finished?}
 use Rattle.machine.specs.Report.{none?, outcome}
 use Rattle.machine.specs.Lists.{HalfLists, SameLengths, Past, Shows}
 use Rattle.halves.specs.Lists.{halfOf}
-use Rattle.starting.specs.Fills.{Filled}
+use Rattle.lists.specs.Filled.{Filled}
 
 -- The half whose rows and readings, lost qubits and other kind's rows the lists hold.
 abbrev pub halfIn : ℕ → RowLists → List ℕ → ℕ → ℕ → Half

@@ -2,7 +2,7 @@
 ghost use mathlib.Core.Path.{_≡_};
 ghost use Prim.Native.Nat.{_*_, _%_, _≤_};
 ghost use lib.ListN.{getD};
-ghost use Rattle.starting.specs.Fills.{Filled};
+ghost use Rattle.lists.specs.Filled.{Filled};
 
 // A qubit's flip with all live guesses 0: the constant of its form, in the first word.
 fn constant_of(word: u64) -> u8

@@ -1,3 +1,3 @@
-pub mod ListFills
+pub mod OpenMarks
 pub mod Marks
 pub mod Ways

@@ -20,7 +20,7 @@ use Rattle.code.specs.Tests.{Ascending}
 use Rattle.code.proofs.Order.{rows-below}
 use Rattle.machine.specs.Machine.{isOpen, startMark}
 use Rattle.machine.specs.Lists.{view}
-use Rattle.starting.specs.Fills.{openMark}
+use Rattle.starting.specs.Starting.{openMark}
 use Rattle.packing.specs.PackedRows.{RowsPut}
 use Rattle.packing.proofs.PackedRows.{rows-count}
 

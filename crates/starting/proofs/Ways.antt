@@ -30,9 +30,9 @@ use Rattle.peeling.specs.Peeling as peeling
 use Rattle.peeling.specs.Peeling.{Peels, Ready}
 use Rattle.search.specs.declared.Search.{Search}
 use Rattle.search.specs.Marked.{Marked}
-use Rattle.starting.specs.Fills.{Filled, openMark}
+use Rattle.lists.specs.Filled.{Filled}
 use Rattle.packing.specs.PackedRows.{RowsPut}
-use Rattle.starting.specs.Starting.{Keeps, Saves, Restores, PeeledFirst, Searched, Begun, fits?, fitting, Starts}
+use Rattle.starting.specs.Starting.{openMark, Keeps, Saves, Restores, PeeledFirst, Searched, Begun, fits?, fitting, Starts}
 use Rattle.starting.proofs.Marks.{listed-below, open-marks, open-lost, long-enough, fixed-marks}
 
 ----------------------------------------------------------------------

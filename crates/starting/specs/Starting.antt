@@ -1,4 +1,5 @@
 -- The start of a half in the lists.
+--   openMark     the marks before the fixed qubits are known
 --   fixedIn      the fixed qubits, of the other kind's rows in the lists
 --   Keeps        what is kept of the half's own rows is right over the marks
 --   Saves        what is kept of the rows copied, and back: Restores
@@ -7,13 +8,14 @@
 --   Begun        the marks are the start's, and what is kept of the rows is right over them
 --   Starts       the promise of `start`
 use mathlib.Core.Path.{_≡_}
-use mathlib.Core.Bool.{Bool, true, false, _&&_}
+use mathlib.Core.Bool.{Bool, true, false, _&&_, cond}
 use mathlib.Core.List.{List}
 use Prim.Native.Nat.{ℕ, _+_, _≤_, _<_}
 use lib.Dec.{leb}
 use lib.ListN.{length, getD}
 use Rattle.binary.specs.Meaning.{Qubits, All, Commute, fixed?}
 use Rattle.binary.specs.Words.{listed}
+use Rattle.lists.specs.Filled.{Filled}
 use Rattle.code.specs.Lists.{rowsFrom}
 use Rattle.code.specs.Tests.{Ascending}
 use Rattle.machine.specs.Machine.{isOpen, startMark}
@@ -21,7 +23,10 @@ use Rattle.machine.specs.Lists.{view}
 use Rattle.machine.specs.Peeling.{peelsAway}
 use Rattle.scans.specs.Rows.{RowLists, rowChecks, GoodRows}
 use Rattle.kept.specs.Kept.{Kept, RowsOn}
-use Rattle.starting.specs.Fills.{Filled, openMark}
+
+-- Lost qubits are open until the fixed ones are known.
+abbrev pub openMark : ℕ → List ℕ → ℕ → ℕ
+openMark n lost q = cond (listed n lost q) 4 0
 
 abbrev pub fixedIn : ℕ → RowLists → List ℕ → ℕ → ℕ → Qubits
 fixedIn n c lost other others = fixed? n (rowsFrom (c .flat) (c .ends) other others) (listed n lost)

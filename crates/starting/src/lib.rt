@@ -3,8 +3,8 @@
 ghost use mathlib.Core.Path.{_≡_};
 ghost use Prim.Native.Nat.{_+_, _≤_};
 ghost use lib.ListN.{length};
-ghost use Rattle.starting.specs.Fills.{Filled, openMark};
-ghost use Rattle.starting.specs.Starting.{Saves, Restores, PeeledFirst, Searched, fits?, Starts};
+ghost use Rattle.lists.specs.Filled.{Filled};
+ghost use Rattle.starting.specs.Starting.{openMark, Saves, Restores, PeeledFirst, Searched, fits?, Starts};
 use code::Rows;
 
 // Each lost qubit is marked open, each other one not lost.

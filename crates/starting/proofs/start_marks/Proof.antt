@@ -4,8 +4,10 @@ use mathlib.Core.Logic.{⊎-elim}
 use Prim.Native.Nat.{_-_, _≤_}
 use denote.Ref.{now}
 use borrow.Author.Needs.{needs}
-use Rattle.starting.specs.Fills.{Filled, openMark}
-use Rattle.starting.proofs.ListFills.{fill-none, fill-turn, fill-end, lost-open, kept-unmarked}
+use Rattle.lists.specs.Filled.{Filled}
+use Rattle.lists.proofs.Filling.{fill-none, fill-turn, fill-end}
+use Rattle.starting.specs.Starting.{openMark}
+use Rattle.starting.proofs.OpenMarks.{lost-open, kept-unmarked}
 use Rattle.starting.proofs.start_marks.Statement.{statement}
 use Rattle.starting.proofs.start_marks.Tie as tie
 

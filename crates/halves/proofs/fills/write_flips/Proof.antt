@@ -2,8 +2,8 @@
 use Prim.Native.Nat.{_-_, _*_, _%_, _≤_}
 use lib.ListN.{getD}
 use borrow.Author.Needs.{needs}
-use Rattle.starting.specs.Fills.{Filled}
-use Rattle.starting.proofs.ListFills.{fill-none, fill-turn, fill-end}
+use Rattle.lists.specs.Filled.{Filled}
+use Rattle.lists.proofs.Filling.{fill-none, fill-turn, fill-end}
 use Rattle.halves.proofs.fills.write_flips.Statement.{statement}
 use Rattle.halves.proofs.fills.write_flips.Tie as tie
 

@@ -5,11 +5,9 @@ use Prim.Native.Nat.{ℕ, _+_, _≤_, _<_}
 use native.Mathlib.Nat.{le-antisymm}
 use native.Mathlib.Decide.{ℕ-discrete}
 use native.Mathlib.Omega.{arith}
-use borrow.Author.Tests.{lt-ltb, eq-eqb, ne-eqb}
 use lib.ListN.{length, getD, set, length-set}
 use lib.Seq.{getD-set-same, getD-set-other}
-use Rattle.binary.specs.Words.{listed}
-use Rattle.starting.specs.Fills.{Filled, openMark}
+use Rattle.lists.specs.Filled.{Filled}
 
 pub fill-none : (f : ℕ → ℕ) (l : List ℕ) → Filled f 0 l l
 fill-none f l = record { long = refl; first = λ q h. absurd (omega arith); rest = λ q h. refl }
@@ -28,13 +26,3 @@ fill-turn f i v l l′ F h e =
 
 pub fill-end : (f : ℕ → ℕ) (i n : ℕ) (l l′ : List ℕ) → Filled f i l l′ → i ≤ n → n ≤ i → Filled f n l l′
 fill-end f i n l l′ F h k = subst (λ (m : ℕ). Filled f m l l′) (le-antisymm h k) F
-
--- Each turn's value at the start of a half.
-module _ (n : ℕ) (lost : List ℕ) (q : ℕ) (h : q < n) where
-  pub lost-open : getD lost q 0 ≡ 1 → 4 ≡ openMark n lost q
-  unfolding listed
-  lost-open e = rw (lt-ltb q n h, eq-eqb (getD lost q 0) 1 e)
-
-  pub kept-unmarked : (getD lost q 0 ≡ 1 → ⊥) → 0 ≡ openMark n lost q
-  unfolding listed
-  kept-unmarked e = rw (lt-ltb q n h, ne-eqb (getD lost q 0) 1 e)
