@@ -96,6 +96,10 @@ and-out false b e = never e refl
 pub and-in : {a b : Bool} → a ≡ true → b ≡ true → (a && b) ≡ true
 and-in p q = rw (p, q)
 
+pub or-false : (a b : Bool) → (a || b) ≡ false → (a ≡ false) × (b ≡ false)
+or-false true b e = never refl e
+or-false false b e = (refl, e)
+
 pub or-out {ℓ} : {C : Type ℓ} (a b : Bool) → (a || b) ≡ true → (a ≡ true → C) → (b ≡ true → C) → C
 or-out true b t f g = f refl
 or-out false b t f g = g t

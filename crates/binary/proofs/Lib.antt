@@ -4,6 +4,7 @@ pub mod Tests
 pub mod Classes
 pub mod Elimination
 pub mod WordBits
+pub mod NumberBits
 pub mod Weights
 pub mod UpTo
 pub mod Rank

@@ -79,7 +79,7 @@ module _ (h : Half) (budget limit : ℕ) where
       run-keeps (checks h) (h .size) (ruleOf h) budget limit (FewAt budget) (λ st u few. few-turn (checks h) (h .size) (ruleOf h) budget limit st few u)
       (suc limit) (startOf h) (start-few budget (checks h) (h .lost) (fixedOf h))
 
-  half-said : let e : End = decoded h budget limit in Said (checks h) (h .size) (ruleOf h) budget limit (e .word) (e .state)
+  pub half-said : let e : End = decoded h budget limit in Said (checks h) (h .size) (ruleOf h) budget limit (e .word) (e .state)
   unfolding decoded
   half-said =
       run-said (checks h) (h .size) (ruleOf h) budget limit (rule-of h) limit (startOf h)
@@ -89,7 +89,7 @@ module _ (h : Half) (budget limit : ℕ) where
 -- Demand 3: fillings and classes
 
 -- The state that a half shows, if it is not none.
-abbrev asState : Shown → State
+abbrev pub asState : Shown → State
 asState s = record { mark = s .mark; forms = record { form = s .form; live = s .report .live }; turns = 0 }
 
 shown-good : (h : Half) (w : Word) (st : State) → none? w ≡ false
@@ -102,7 +102,7 @@ shown-good h None st e v = never refl e
 shown-good h Spent st e v = v
 shown-good h Stopped st e v = v
 
-outcome-good : (h : Half) (budget limit : ℕ) → (outcome h budget limit .report .word ≡ None → ⊥)
+pub outcome-good : (h : Half) (budget limit : ℕ) → (outcome h budget limit .report .word ≡ None → ⊥)
     → Good (checks h) (h .lost) (fixedOf h) (on (asState (outcome h budget limit)))
 unfolding shown
 outcome-good h budget limit some-word =
@@ -136,11 +136,11 @@ fillings h obeys budget limit some-word = all-of (outcome h budget limit) (outco
         guess-once g g′ f (suc k) a b = f k b
 
 module _ (h : Half) (obeys : Obeys h) where
-  even : Commuting (h .others) (checks h)
+  pub even : Commuting (h .others) (checks h)
   even = commuting (h .others) 0 (h .lit) (h .unread) (h .rows) (obeys .commute)
 
   -- No open qubit below n: none at all.
-  shut-all : (st : State) → Good (checks h) (h .lost) (fixedOf h) (on st) → noneOpen (checks h) (h .size) (ruleOf h) st ≡ true
+  pub shut-all : (st : State) → Good (checks h) (h .lost) (fixedOf h) (on st) → noneOpen (checks h) (h .size) (ruleOf h) st ≡ true
       → (q : ℕ) → isOpen (st .mark) q ≡ false
   shut-all st v t q =
       bit (isOpen (st .mark) q) (λ e. not-out (isOpen (st .mark) q) (below-out (h .size) _ t q (obeys .lost-below q (v .open-lost q e)))) (λ e. e)

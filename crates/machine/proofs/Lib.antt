@@ -13,3 +13,4 @@ pub mod Seen
 pub mod Unread
 pub mod Peeling
 pub mod FormWords
+pub mod Candidates

@@ -59,7 +59,7 @@ dot-top (suc m) f g e = ap ((f 0 && g 0) ⊕_) (dot-top m (λ i. f (suc i)) (λ 
 pub value-top : (m : ℕ) (f g : Form) → f (suc m) ≡ false → value (suc m) f g ≡ value m f g
 value-top m f g e = ap (f 0 ⊕_) (dot-top m (λ i. f (suc i)) (λ i. g (suc i)) e)
 
-dot-same : (m : ℕ) (f g h : Form) → ((i : ℕ) → i < m → g i ≡ h i) → dot m f g ≡ dot m f h
+pub dot-same : (m : ℕ) (f g h : Form) → ((i : ℕ) → i < m → g i ≡ h i) → dot m f g ≡ dot m f h
 dot-same zero f g h e = refl
 dot-same (suc m) f g h e =
     ap₂ _⊕_ (ap (f 0 &&_) (e 0 (omega arith))) (dot-same m (λ i. f (suc i)) (λ i. g (suc i)) (λ i. h (suc i)) (λ i l. e (suc i) (omega arith)))
