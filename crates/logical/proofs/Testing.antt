@@ -6,11 +6,10 @@ use mathlib.Core.List.{List}
 use Prim.Native.Nat.{ℕ, _+_}
 use native.Mathlib.Nat.{add-assoc}
 use lib.Dec.{eqb}
-use borrow.Author.Tests.{eq-eqb, ne-eqb}
-use lib.ListN.{length}
+use borrow.Author.Tests.{not-false}
 use Rattle.binary.specs.Meaning.{Below}
 use Rattle.binary.specs.Rank.{rank}
-use Rattle.binary.proofs.Bits.{never}
+use Rattle.binary.proofs.Bits.{never, or-false}
 use Rattle.code.proofs.Flat.{rows-first, rows-second}
 use Rattle.code.proofs.Order.{rows-below}
 use Rattle.records.specs.declared.Sizes.{Sizes}
@@ -20,13 +19,13 @@ use Rattle.records.specs.declared.Refusal.the-variants.{Codeless, Short, Encode
 use Rattle.records.specs.declared.Answer.the-variants.{Taken}
 use Rattle.records.specs.declared.Reply.{Reply}
 use Rattle.records.specs.Records.{encodes}
-use Rattle.records.specs.History.{Code, sizesOf, Shot, History, ready}
+use Rattle.records.specs.History.{Code, Shot, History, ready}
 use Rattle.records.specs.Table.{inRange, encodes?, refusal}
-use Rattle.records.specs.Lists.{Lists, held, Holds, Represents}
+use Rattle.records.specs.Lists.{held, Holds, Represents}
 use Rattle.records.specs.States.{withoutCode, saying}
 use Rattle.records.specs.Steps.{Answered, Does}
 use Rattle.records.proofs.HeldStates.{no-code, with-code}
-use Rattle.records.proofs.Range.{InRange, range-out}
+use Rattle.records.proofs.Range.{range-out}
 use Rattle.records.proofs.Answers.{answered, answered-refused, says-refused, says-same}
 use Rattle.logical.specs.Logical.{Few, RanksOf, Tests}
 
@@ -36,9 +35,7 @@ short-of true t e f = refl
 short-of false t e f = never e (ap not f)
 
 neither : (a t : Bool) → (a || not t) ≡ false → (a ≡ false) × (t ≡ true)
-neither true t e = never refl e
-neither false true e = (refl, refl)
-neither false false e = never refl e
+neither a t e = let z = or-false a (not t) e in (z .0, not-false t (z .1))
 
 pub few-sizes : (z : Sizes) (short : Bool) (told : Bool) → told ≡ inRange (z .n) (z .x) (z .z) → (short || not told) ≡ false → Few z
 few-sizes z short told t e =

@@ -1,5 +1,7 @@
 pub mod HeldStates
 pub mod Answers
 pub mod Range
+pub mod Lowest
 pub mod Numbers
 pub mod KindBytes
+pub mod Candidates

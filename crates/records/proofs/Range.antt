@@ -1,13 +1,13 @@
 -- The range of sizes, and lists that are long enough. Assumes nothing.
 --   Small      a code's sizes are document 01's
 --   LongLists  the lists of code, shot and work have their least lengths; LongHalf: the three lists of a half
-use mathlib.Core.Path.{_≡_, refl}
-use mathlib.Core.Bool.{Bool, true, false, _&&_, _||_}
+use mathlib.Core.Path.{_≡_}
+use mathlib.Core.Bool.{true, false, _&&_, _||_}
 use Prim.Native.Nat.{ℕ, _*_, _≤_}
 use borrow.Author.Tests.{leb-true, ltb-false}
 use lib.Dec.{leb, ltb}
 use lib.ListN.{length}
-use Rattle.binary.proofs.Bits.{never, and-out}
+use Rattle.binary.proofs.Bits.{and-out, or-false}
 use Rattle.machine.specs.Lists.{HalfLists}
 use Rattle.records.specs.declared.State.{State}
 use Rattle.records.specs.History.{Code, Shot}
@@ -36,10 +36,6 @@ small c s st l v = range-out (c .n) (length (c .xs)) (length (c .zs)) (v .range)
 ----------------------------------------------------------------------
 -- Lists that are long enough
 
-neither : (a b : Bool) → (a || b) ≡ false → (a ≡ false) × (b ≡ false)
-neither true b e = never refl e
-neither false b e = (refl, e)
-
 pub record LongLists (l : Lists) (size : ℕ) : Type 0 where
   pub flat : 16384 ≤ length (l .flat)
   pub ends : 1024 ≤ length (l .ends)
@@ -52,9 +48,9 @@ long-lists l work e =
     let flat = ltb (length (l .flat)) 16384 in
     let ends = ltb (length (l .ends)) 1024 in
     let shot = ltb (length (l .shot)) 2048 in
-    let a = neither (flat || ends || shot) (ltb work 10240) e in
-    let b = neither (flat || ends) shot (a .0) in
-    let d = neither flat ends (b .0) in
+    let a = or-false (flat || ends || shot) (ltb work 10240) e in
+    let b = or-false (flat || ends) shot (a .0) in
+    let d = or-false flat ends (b .0) in
     record { flat = ltb-false _ _ (d .0); ends = ltb-false _ _ (d .1); shot = ltb-false _ _ (b .1); work = ltb-false _ _ (a .1) }
 
 pub record LongHalf (n : ℕ) (l : HalfLists) : Type 0 where
@@ -64,6 +60,6 @@ pub record LongHalf (n : ℕ) (l : HalfLists) : Type 0 where
 
 pub long-half : (n : ℕ) (l : HalfLists) → shortHalf l n ≡ false → LongHalf n l
 long-half n l e =
-    let a = neither (ltb (length (l .marks)) n || ltb (length (l .forms)) (4 * n)) (ltb (length (l .correction)) n) e in
-    let b = neither (ltb (length (l .marks)) n) (ltb (length (l .forms)) (4 * n)) (a .0) in
+    let a = or-false (ltb (length (l .marks)) n || ltb (length (l .forms)) (4 * n)) (ltb (length (l .correction)) n) e in
+    let b = or-false (ltb (length (l .marks)) n) (ltb (length (l .forms)) (4 * n)) (a .0) in
     record { marks = ltb-false _ _ (b .0); forms = ltb-false _ _ (b .1); correction = ltb-false _ _ (a .1) }

@@ -1,7 +1,9 @@
 pub mod Records
 pub mod History
+pub mod Lowest
 pub mod Table
 pub mod Lists
 pub mod States
 pub mod Promise
 pub mod Steps
+pub mod Candidates

@@ -3,15 +3,15 @@
 --   encodes?       whether a code's rows encode so many qubits
 --   tests          the table's column "When", for each kind of record
 --   refusal        the lowest number that applies
---   Numbered       the same by the numbers: the refusal's test passes, and no refusal of a lower number has one that does
+--   NumberedLaw    the same by the numbers: the refusal's test passes, and no refusal of a lower number has one that does
 --   AnyBudget      no refusal hangs on the budget
 --   leaves         the table's column "After it"
 --   takes          what a record that is carried out makes of code and shot
 use mathlib.Core.Path.{_≡_}
 use mathlib.Core.Bool.{Bool, true, false, not, _&&_, _||_, cond}
 use mathlib.Core.Option.{Option, none, some}
-use mathlib.Core.List.{List, [], _∷_, List·Memᴰ}
-use Prim.Native.Nat.{ℕ, _+_, _≤_}
+use mathlib.Core.List.{List, [], _∷_}
+use Prim.Native.Nat.{ℕ, _+_}
 use lib.Dec.{eqb, leb, ltb}
 use lib.ListN.{length}
 use Rattle.binary.specs.Meaning.{Row, commute?}
@@ -19,10 +19,11 @@ use Rattle.binary.specs.Rank.{rank}
 use Rattle.code.specs.Tests.{ascending?}
 use Rattle.records.specs.declared.Refusal.{Refusal}
 use Rattle.records.specs.declared.Refusal.the-variants.{Unknown, Length, Size, Place, Clash, Codeless, Range, Twice, Spoiled, Short, Encoded}
+use Rattle.records.specs.Lowest.{lowest, Numbered}
 use Rattle.records.specs.Records.{Pauli, X, Z, Record, unknown, wrong, size, row, add, report, encodes}
 use Rattle.records.specs.History.{Code, Shot, History, empty, loading, ready, sizesOf, domainOf, sizeOf, already, onShot, joined, spoil, endShot, loaded, addRow}
 
--- 10 and 13 to 16 are not used.
+-- 10 is not used, and 13 to 16 are not of records.
 abbrev pub refusalNumber : Refusal → ℕ
 refusalNumber Unknown = 1
 refusalNumber Length = 2
@@ -93,29 +94,11 @@ tests short six (report budget limit) a =
     (Codeless, not (complete a)) ∷ (Spoiled, ofShot (λ c s. s .spoiled) a) ∷ (Short, short || ofShot (λ c s. six (c .n)) a) ∷ []
 tests short six (encodes k) a = (Codeless, not (complete a)) ∷ (Short, short) ∷ (Encoded, ofShot (λ c s. not (encodes? k c)) a) ∷ []
 
--- The first whose test passes.
-abbrev pub lowest : List (Refusal × Bool) → Option Refusal
-lowest [] = none
-lowest (t ∷ ts) = cond (t .1) (some (t .0)) (lowest ts)
-
 unfoldable pub refusal : Bool → (ℕ → Bool) → Record → History → Option Refusal
 refusal short six r a = lowest (tests short six r a)
 
--- A refusal among tests that passes its own.
-abbrev pub Applies : List (Refusal × Bool) → Refusal → Type 0
-Applies ts n = List·Memᴰ (n, true) ts
-
-pub record LowestNumber (ts : List (Refusal × Bool)) (n : Refusal) : Type 0 where
-  pub applies : Applies ts n
-  pub least : (m : Refusal) → Applies ts m → refusalNumber n ≤ refusalNumber m
-
--- Where no refusal is given, none applies.
-abbrev pub Numbered : List (Refusal × Bool) → Option Refusal → Type 0
-Numbered ts (some n) = LowestNumber ts n
-Numbered ts none = (m : Refusal) → Applies ts m → ⊥
-
 unfoldable pub NumberedLaw : Type 0
-NumberedLaw = (short : Bool) (six : ℕ → Bool) (r : Record) (a : History) → Numbered (tests short six r a) (refusal short six r a)
+NumberedLaw = (short : Bool) (six : ℕ → Bool) (r : Record) (a : History) → Numbered refusalNumber (tests short six r a) (refusal short six r a)
 
 -- Any budget is accepted (document 02, request e): no refusal has number 10, and whether and which one is given does not hang on the budget.
 pub record AnyBudget : Type 0 where

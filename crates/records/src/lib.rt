@@ -2,7 +2,7 @@
 use machine::HalfReport;
 
 // The version of records, lists and structs, one more whenever one of them changes: a header and an archive tell theirs.
-pub const VERSION: u16 = 5;
+pub const VERSION: u16 = 6;
 
 // Why a record is refused (document 01, the table).
 pub enum Refusal {
@@ -63,4 +63,17 @@ pub struct State {
 pub struct Reply {
     pub state: State,
     pub answer: Answer,
+}
+
+// Why a candidate is not given (document 02, request f).
+pub enum CandidateRefusal {
+    Short,
+    Unfinished,
+    Many,
+}
+
+// The answer to a call for a candidate: a refusal, or that it was written.
+pub enum CandidateAnswer {
+    Refused(CandidateRefusal),
+    Given,
 }
