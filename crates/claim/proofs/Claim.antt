@@ -1,40 +1,48 @@
 -- Demands 1 to 3 hold of every list of calls from a fresh start. Assumes nothing.
 use mathlib.Core.Path.{_≡_, refl, sym, ap, _∙_, subst}
-use mathlib.Core.Bool.{Bool, true, false}
+use mathlib.Core.Bool.{Bool, true, false, _||_}
 use mathlib.Core.Option.{Option, none, some}
 use mathlib.Core.List.{List, [], _∷_, _++_}
 use Prim.Native.Nat.{ℕ, _≤_, _<_}
 use lib.Dec.{T, ltb, ltb→lt}
 use lib.ListN.{length}
 use Rattle.binary.specs.Meaning.{Qubits}
-use Rattle.binary.proofs.Bits.{never, and-out}
+use Rattle.binary.proofs.Bits.{never, and-out, or-false}
 use Rattle.binary.proofs.Tests.{commute-test}
 use Rattle.code.proofs.Order.{rows-below}
 use Rattle.commuting.proofs.Sharing.{commute-symmetric}
 use Rattle.machine.specs.declared.HalfReport.{HalfReport}
-use Rattle.machine.specs.Machine.{Half}
+use Rattle.machine.specs.Words.{finished?}
+use Rattle.machine.specs.Machine.{Half, isOpen}
 use Rattle.machine.specs.Report.{Shown, shown, outcome}
-use Rattle.machine.specs.Lists.{HalfLists, Shows, seen}
+use Rattle.machine.specs.Lists.{HalfLists, Shows, SameLengths, seen}
 use Rattle.machine.specs.Unread.{before, AllReadLaw}
 use Rattle.machine.specs.Demands.{Obeys, VerdictLaw, CountedLaw, FillingsLaw, ClassesLaw, BudgetsLaw, ReachLaw}
 use Rattle.machine.specs.OneWord.{OneWord, OneWordLaw}
+use Rattle.machine.specs.Candidates.{Candidates, CandidatesLaw}
 use Rattle.machine.proofs.FormWords.{one-word}
+use Rattle.machine.proofs.Candidates.{over-shut-all, candidates}
 use Rattle.machine.proofs.Demands.{verdict, counted, fillings, classes, budgets, reach}
 use Rattle.machine.proofs.Unread.{all-read}
 use Rattle.machine.proofs.Seen.{seen-is}
 use Rattle.records.specs.declared.Report.{Report}
 use Rattle.records.specs.declared.State.{State}
 use Rattle.records.specs.declared.Refusal.{Refusal}
+use Rattle.records.specs.declared.Refusal.the-variants.{Codeless, Spoiled, Short}
 use Rattle.records.specs.declared.Answer.{Answer}
 use Rattle.records.specs.declared.Answer.the-variants.{Taken, Decoded}
 use Rattle.records.specs.Records.{Pauli, X, Z, lost, Record, report, encodes, recordOf}
 use Rattle.records.specs.History.{Code, Shot, History, empty, ready, other, half}
-use Rattle.records.specs.Table.{tests, refusal, Numbered, NumberedLaw, afterwards}
-use Rattle.records.specs.Lists.{Lists, Six, Lent, shortLists, shortSix, marks, ShotIn, Holds, Represents}
-use Rattle.records.specs.Promise.{refusalAt, answerOf, Left, Written, Unworked}
+use Rattle.records.specs.Lowest.{lowest, Numbered}
+use Rattle.records.specs.Table.{refusalNumber, tests, refusal, NumberedLaw, afterwards}
+use Rattle.records.specs.Lists.{Lists, Six, Lent, shortLists, shortHalf, shortSix, marks, ShotIn, Holds, Represents}
+use Rattle.records.specs.Promise.{refusalAt, answerOf, Left, Written, Unworked, KeptLengths}
+use Rattle.records.proofs.Range.{LongHalf, long-half}
 use Rattle.records.proofs.Numbers.{lowest-numbered}
 use Rattle.claim.specs.Calls.{Step, lent, Call, step, Keeps, stateLeft, listsLeft, Run, call, makes, past, Place, at, begins, stateAfter}
 use Rattle.claim.proofs.Unread.{AllRead, past-read}
+use Rattle.claim.proofs.Candidates.{classes-shown}
+use Rattle.claim.specs.Candidates.{ClassesShown}
 use Rattle.claim.specs.Claim.{Told, reportFor, listsFor, shows, Reported, HalfRight, SameHalf, Claim}
 
 ----------------------------------------------------------------------
@@ -89,7 +97,7 @@ placed : (k : Call) (p : Place k) → Reached (p .lists) (at p) k (stateAfter (p
 placed k p =
     reached (p .lists) (p .lists) (p .state) empty (p .before) (p .after) k (record { flat = refl; ends = refl; shot = refl }) (p .fresh) (p .run)
 
-numbered : (short : Bool) (six : ℕ → Bool) (r : Record) (a : History) → Numbered (tests short six r a) (refusal short six r a)
+numbered : (short : Bool) (six : ℕ → Bool) (r : Record) (a : History) → Numbered refusalNumber (tests short six r a) (refusal short six r a)
 unfolding NumberedLaw
 numbered = lowest-numbered
 
@@ -178,6 +186,44 @@ shown-as k p c s budget limit r v =
     }
 
 ----------------------------------------------------------------------
+-- The lists of a decode that is reported
+
+reported-none : (q : Option Refusal) (w : Record) (a : History) (x : Answer) (r : Report) → x ≡ Decoded r → x ≡ answerOf q w a → q ≡ none
+reported-none none w a x r d e = refl
+reported-none (some n) w a x r d e = let z : _≡_ {A = Bool} true false = cc in never refl z
+
+-- A decode that is not refused meets six lists that are long enough.
+six-long : (short : Bool) (six : ℕ → Bool) (budget limit : ℕ) (c : Code) (s : Shot) → refusal short six (report budget limit) (ready c s) ≡ none → six (c .n) ≡ false
+unfolding refusal
+six-long short six budget limit c s = by (s .spoiled) short (six (c .n))
+  where
+    by : (spoiled short few : Bool) → lowest ((Codeless, false) ∷ (Spoiled, spoiled) ∷ (Short, short || few) ∷ []) ≡ none → few ≡ false
+    by true short few e = let z : _≡_ {A = Bool} true false = cc in never refl z
+    by false true few e = let z : _≡_ {A = Bool} true false = cc in never refl z
+    by false false true e = let z : _≡_ {A = Bool} true false = cc in never refl z
+    by false false false e = refl
+
+long-as : (n : ℕ) (old new : HalfLists) → SameLengths old new → LongHalf n old → LongHalf n new
+long-as n old new e l =
+    record { marks = rw (e .marks) (l .marks); forms = rw (e .forms) (l .forms); correction = rw (e .correction) (l .correction) }
+
+left-long : (k : Step) (p : Place (step k)) (c : Code) (s : Shot) (budget limit : ℕ) (r : Report) → Reported (at p) k c s budget limit r
+    → (b : Pauli) → LongHalf (c .n) (listsFor b (k .left .six))
+unfolding shortSix
+left-long k p c s budget limit r v b =
+    let t = told k p in
+    let n = reported-none (refusalAt (recordOf (k .bytes)) (at p) (lent (p .lists) k)) (recordOf (k .bytes)) (at p) (k .reply .answer) r (v .answer) (t .answer) in
+    let m : refusalAt (report budget limit) (ready c s) (lent (p .lists) k) ≡ none =
+    subst (λ (a : History). refusalAt (report budget limit) a (lent (p .lists) k) ≡ none) (v .at) (subst (λ (w : Record). refusalAt w (at p) (lent (p .lists) k) ≡ none) (v .decode) n) in
+    let few = or-false (shortHalf (k .six .x) (c .n)) (shortHalf (k .six .z) (c .n)) (six-long (shortLists (p .lists) (length (k .work))) (shortSix (k .six)) budget limit c s m) in
+    by b (placed (step k) p .kept .lengths) few
+  where
+    by : (b : Pauli) → KeptLengths (lent (begins (p .lists) (p .before)) k) (k .left) → (shortHalf (k .six .x) (c .n) ≡ false) × (shortHalf (k .six .z) (c .n) ≡ false)
+        → LongHalf (c .n) (listsFor b (k .left .six))
+    by X e few = long-as (c .n) (k .six .x) (k .left .six .x) (e .x) (long-half (c .n) (k .six .x) (few .0))
+    by Z e few = long-as (c .n) (k .six .z) (k .left .six .z) (e .z) (long-half (c .n) (k .six .z) (few .1))
+
+----------------------------------------------------------------------
 -- A kind 8 that agrees
 
 -- A call that leaves state and lists as they were can be left out.
@@ -232,6 +278,18 @@ half-one-word : (h : Half) (budget limit : ℕ) → budget ≤ 63 → (old new :
 unfolding OneWordLaw
 half-one-word = one-word
 
+half-candidates : (h : Half) → Obeys h → (budget limit : ℕ) → finished? (outcome h budget limit .report .word) ≡ true → Candidates h (outcome h budget limit)
+unfolding CandidatesLaw
+half-candidates = candidates
+
+-- Of what a decode shows of a half.
+shown-classes : (h : Half) → Obeys h → (budget limit : ℕ) (r : HalfReport) (l : HalfLists) → LongHalf (h .size) l → seen (h .size) r l ≡ outcome h budget limit
+    → finished? (r .word) ≡ true → r .live ≤ 8 → ClassesShown h r l
+shown-classes h obeys budget limit r l long same over few =
+    let ended = subst (λ (x : Shown). finished? (x .report .word) ≡ true) same over in
+    classes-shown h r l long over (subst (λ (x : Shown). (q : ℕ) → isOpen (x .mark) q ≡ false) (sym same) (over-shut-all h obeys budget limit ended)) few
+    (subst (Candidates h) (sym same) (half-candidates h obeys budget limit ended))
+
 pub claim : Claim
 claim =
     record {
@@ -255,4 +313,7 @@ claim =
           let unmarked : AllRead (ready c s) = subst AllRead (v .at) (past-read (p .lists) empty (p .before) read tt) in
           shown-as k p c s budget limit r v .same b ∙ half-read (half b c s) (λ i. ap (λ (f : ℕ → Bool). f i) (unmarked (other b))) budget limit;
       agreed = agreed;
+      candidates = λ k p c s budget limit r v b over few.
+          let z = shown-as k p c s budget limit r v in
+          shown-classes (half b c s) (z .obeyed b) budget limit (reportFor b r) (listsFor b (k .left .six)) (left-long k p c s budget limit r v b) (z .same b) over few;
     }

@@ -1,8 +1,8 @@
 -- Demands 1 to 3, one claim about whole lists of calls from a fresh start (document 00).
 --   Told       demand 1, of one record
 --   HalfRight  demands 2 and 3, of one half that a decode reports
---   Claim      every call in every run from a fresh start is so, any two reported decodes of one code and shot agree as demand 3 says, and a kind 8 that
---              agrees is as if it had not come
+--   Claim      every call in every run from a fresh start is so, any two reported decodes of one code and shot agree as demand 3 says, a kind 8 that
+--              agrees is as if it had not come, and the candidates of a finished half show each class once
 use mathlib.Core.Path.{_≡_}
 use mathlib.Core.Bool.{true, false}
 use mathlib.Core.Logic.{_⊎_}
@@ -22,10 +22,12 @@ use Rattle.records.specs.declared.Report.{Report}
 use Rattle.records.specs.declared.Answer.the-variants.{Taken, Decoded}
 use Rattle.records.specs.Records.{Pauli, X, Z, report, encodes, recordOf}
 use Rattle.records.specs.History.{Code, Shot, History, ready, half}
-use Rattle.records.specs.Table.{Numbered}
+use Rattle.records.specs.Lowest.{Numbered}
+use Rattle.records.specs.Table.{refusalNumber}
 use Rattle.records.specs.Lists.{Lists, Six, Represents}
 use Rattle.records.specs.Promise.{refusalAt, testsAt, answerOf, Left, Written, Unworked}
 use Rattle.claim.specs.Calls.{Step, lent, Call, step, stateLeft, listsLeft, Run, makes, Place, at, begins, stateAfter, Read}
+use Rattle.claim.specs.Candidates.{ClassesShown}
 
 ----------------------------------------------------------------------
 -- One call
@@ -33,7 +35,7 @@ use Rattle.claim.specs.Calls.{Step, lent, Call, step, stateLeft, listsLe
 -- Demand 1. The answer is the record's own or the refusal with the first number that fits, the lowest of those whose tests pass; every list is left
 -- as document 01 says: l are the lists of code and shot at the start, l′ before this call.
 pub record Told (a : History) (l l′ : Lists) (k : Step) : Type 0 where
-  pub number : Numbered (testsAt (recordOf (k .bytes)) a (lent l k)) (refusalAt (recordOf (k .bytes)) a (lent l k))
+  pub number : Numbered refusalNumber (testsAt (recordOf (k .bytes)) a (lent l k)) (refusalAt (recordOf (k .bytes)) a (lent l k))
   pub answer : k .reply .answer ≡ answerOf (refusalAt (recordOf (k .bytes)) a (lent l k)) (recordOf (k .bytes)) a
   pub lists : Left (refusalAt (recordOf (k .bytes)) a (lent l k)) (recordOf (k .bytes)) a l′ (k .left .lists)
   pub six : Written (refusalAt (recordOf (k .bytes)) a (lent l k)) (recordOf (k .bytes)) a (k .six) (k .left .six)
@@ -98,3 +100,8 @@ pub record Claim : Type 0 where
   -- is as if it had not come.
   pub agreed : (k : Step) (p : Place (step k)) (j : ℕ) → recordOf (k .bytes) ≡ encodes j → k .reply .answer ≡ Taken
       → (k .left ≡ lent (begins (p .lists) (p .before)) k) × Run (p .state) (p .lists) (p .before ++ p .after)
+  -- Each half that a decode reports as finished with at most 8 live guesses, whichever rows were read: asked with word, live count, marks and forms as that
+  -- decode left them, each candidate fits, every error that fits differs by a product of other-kind rows from exactly one, and a certain half has one.
+  pub candidates : (k : Step) (p : Place (step k)) (c : Code) (s : Shot) (budget limit : ℕ) (r : Report) → Reported (at p) k c s budget limit r
+      → (b : Pauli) → finished? (reportFor b r .word) ≡ true → reportFor b r .live ≤ 8
+      → ClassesShown (half b c s) (reportFor b r) (listsFor b (k .left .six))
