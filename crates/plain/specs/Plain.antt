@@ -2,6 +2,9 @@
 --   stateOf     the state that a state's numbers stand for
 --   plainState  the numbers of a state
 --   plainReply  the numbers of a reply: the answer, the table's number of a refusal, word and counts of the halves of a report
+--   wordOf      the word that a number stands for
+--   plainCandidate  the number of the answer to a call for a candidate
+use mathlib.Core.Path.{_≡_}
 use mathlib.Core.Bool.{Bool, not, cond}
 use Prim.Native.Nat.{ℕ}
 use lib.Dec.{eqb}
@@ -14,7 +17,10 @@ use Rattle.records.specs.declared.State.{State}
 use Rattle.records.specs.declared.Answer.{Answer}
 use Rattle.records.specs.declared.Answer.the-variants.{Refused, Taken, Complete, Decoded}
 use Rattle.records.specs.declared.Reply.{Reply}
+use Rattle.records.specs.declared.CandidateAnswer.{CandidateAnswer}
+use Rattle.records.specs.declared.CandidateAnswer.the-variants.{Given}
 use Rattle.records.specs.Table.{refusalNumber}
+use Rattle.records.specs.Candidates.{candidateNumber}
 use Rattle.plain.specs.declared.RackState.{RackState}
 use Rattle.plain.specs.declared.RackHalf.{RackHalf}
 use Rattle.plain.specs.declared.RackReply.{RackReply}
@@ -71,6 +77,14 @@ wordNumber None = 3
 wordNumber Spent = 4
 wordNumber Stopped = 5
 
+-- Any other number is an unfinished half's.
+abbrev pub wordOf : ℕ → Word
+wordOf w = cond (eqb w 1) Certain (cond (eqb w 2) Unsure (cond (eqb w 3) None (cond (eqb w 4) Spent Stopped)))
+
+-- A word's number stands for it: the half of a reply is asked about by its own word.
+unfoldable pub WordLaw : Type 0
+WordLaw = (w : Word) → wordOf (wordNumber w) ≡ w
+
 abbrev pub plainHalf : HalfReport → RackHalf
 plainHalf h = record { word = wordNumber (h .word); fixed = h .fixed; turns = h .turns; guesses = h .guesses; live = h .live }
 
@@ -89,3 +103,11 @@ plainAnswer (Refused why) s = unreported 3 (refusalNumber why) s
 
 abbrev pub plainReply : Reply → RackReply
 plainReply r = plainAnswer (r .answer) (plainState (r .state))
+
+----------------------------------------------------------------------
+-- Candidates
+
+-- 0 where the candidate was given, else the number of the refusal.
+abbrev pub plainCandidate : CandidateAnswer → ℕ
+plainCandidate Given = 0
+plainCandidate (CandidateAnswer.Refused why) = candidateNumber why

@@ -1,9 +1,12 @@
 // States and replies as plain numbers, for a rack's own program in C or Rust.
 ghost use mathlib.Core.Path.{_≡_};
-ghost use Rattle.plain.specs.Plain.{phaseOf, phaseNumber, stateOf, plainState, wordNumber, plainHalf, noHalf, unreported, plainAnswer, plainReply};
+ghost use Rattle.records.specs.Candidates.{candidateNumber};
+ghost use Rattle.plain.specs.Plain.{phaseOf, phaseNumber, stateOf, plainState, wordNumber, wordOf, plainHalf, noHalf, unreported, plainAnswer, plainReply, plainCandidate};
 use machine::HalfReport;
 use machine::Word;
 use records::Answer;
+use records::CandidateAnswer;
+use records::CandidateRefusal;
 use records::Phase;
 use records::Reply;
 use records::Report;
@@ -78,6 +81,25 @@ fn word_number(w: Word) -> u16
         Word::Spent => 4,
         Word::Stopped => 5,
     }
+}
+
+// The word that a number stands for; any other number is an unfinished half's, stopped.
+pub fn word_of(w: u16) -> Word
+    ensures { λ r. ⌜ r ≡ wordOf w ⌝ }
+{
+    if w == 1 {
+        return Word::Certain;
+    }
+    if w == 2 {
+        return Word::Unsure;
+    }
+    if w == 3 {
+        return Word::None;
+    }
+    if w == 4 {
+        return Word::Spent;
+    }
+    Word::Stopped
 }
 
 // The state that the numbers stand for.
@@ -190,4 +212,25 @@ pub fn reply(r: Reply) -> RackReply
     let after = r.state;
     let answer = r.answer;
     answered(state(after), answer)
+}
+
+// The number of a refusal of a candidate.
+fn candidate_refusal(why: CandidateRefusal) -> u16
+    ensures { λ r. ⌜ r ≡ candidateNumber why ⌝ }
+{
+    match why {
+        CandidateRefusal::Short => 12,
+        CandidateRefusal::Unfinished => 15,
+        CandidateRefusal::Many => 16,
+    }
+}
+
+// 0 where the candidate was given, else the number of the refusal.
+pub fn candidate(answer: CandidateAnswer) -> u16
+    ensures { λ r. ⌜ r ≡ plainCandidate answer ⌝ }
+{
+    match answer {
+        CandidateAnswer::Given => 0,
+        CandidateAnswer::Refused(why) => candidate_refusal(why),
+    }
 }

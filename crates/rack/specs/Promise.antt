@@ -1,21 +1,30 @@
--- The promise of the library's call.
+-- The promises of the library's calls.
 --   version      the version of records, lists and structs that the header has too
 --   RackPromise  the promise of `rack_step`: that of `stream::step`, in plain numbers
+--   RackGives    the promise of `rack_candidate`: that of `candidates::give`, in plain numbers
 use mathlib.Core.Path.{_≡_}
 use mathlib.Core.List.{List}
 use Prim.Native.Nat.{ℕ}
 use Rattle.records.specs.declared.Reply.{Reply}
+use Rattle.records.specs.declared.CandidateAnswer.{CandidateAnswer}
 use Rattle.records.specs.Lists.{Lent}
 use Rattle.records.specs.Promise.{Promise}
+use Rattle.records.specs.Candidates.{Gives}
 use Rattle.plain.specs.declared.RackState.{RackState}
 use Rattle.plain.specs.declared.RackReply.{RackReply}
-use Rattle.plain.specs.Plain.{stateOf, plainReply}
+use Rattle.plain.specs.Plain.{stateOf, plainReply, wordOf, plainCandidate}
 
 abbrev pub version : ℕ
-version = 5
+version = 6
 
 -- The numbers of a reply that `stream::step` promises at the state that the numbers given stand for.
 pub record RackPromise (s : RackState) (bytes : List ℕ) (old new : Lent) (r : RackReply) : Type 0 where
   pub reply : Reply
   pub promised : Promise (stateOf s) bytes old new reply
   pub numbers : r ≡ plainReply reply
+
+-- The number of an answer that `candidates::give` promises for the word that the number given stands for.
+pub record RackGives (n word live : ℕ) (marks forms : List ℕ) (number : ℕ) (old new : List ℕ) (r : ℕ) : Type 0 where
+  pub answer : CandidateAnswer
+  pub gives : Gives (record { n = n; word = wordOf word; live = live; marks = marks; forms = forms; number = number }) old new answer
+  pub told : r ≡ plainCandidate answer

@@ -1,9 +1,9 @@
-// The stream's call for a rack's own program in C or Rust (include/rack.h): state and reply as plain numbers.
+// The calls for a rack's own program in C or Rust (include/rack.h): states, words and answers as plain numbers.
 ghost use mathlib.Core.Path.{_≡_};
 ghost use Rattle.records.specs.Lists.{held, sixOf, lentOf};
 ghost use Rattle.records.specs.States.{freshState};
 ghost use Rattle.plain.specs.Plain.{plainState};
-ghost use Rattle.rack.specs.Promise.{version, RackPromise};
+ghost use Rattle.rack.specs.Promise.{version, RackPromise, RackGives};
 use plain::RackReply;
 use plain::RackState;
 
@@ -56,4 +56,21 @@ pub extern "C" fn rack_step(
         bytes,
     );
     plain::reply(reply)
+}
+
+// Candidate `number` of a half: `candidates::give` on the word that the number stands for. 0 where it was given, else the number of the refusal.
+#[no_mangle]
+pub extern "C" fn rack_candidate(
+    n: u16,
+    word: u16,
+    live: u16,
+    marks: &[u8],
+    forms: &[u64],
+    number: u64,
+    candidate: &mut [u8],
+) -> u16
+    ensures { λ r. ⌜ RackGives n word live (now (marks .entry)) (now (forms .entry)) number (now (candidate .entry)) (now (candidate .exit)) r ⌝ }
+{
+    let said = plain::word_of(word);
+    plain::candidate(candidates::give(n, said, live, marks, forms, number, candidate))
 }
