@@ -27,7 +27,7 @@ extern "C" {
 /* ---- Numbers ---- */
 
 /* The version of records, lists and structs. */
-#define RACK_VERSION 5
+#define RACK_VERSION 6
 
 /* The kind of a record, its first byte. A row's is this and as many more as it has qubits. */
 enum rack_kind {
@@ -43,13 +43,14 @@ enum rack_kind {
     RACK_KIND_Z_ROW = 64
 };
 
-/* The most that a record may carry. */
+/* The most that a record may carry, and the most live guesses of a half whose candidates are shown. */
 enum rack_most {
     RACK_MOST_QUBITS = 1024,
     RACK_MOST_ROWS = 512,
     RACK_MOST_WEIGHT = 16,
     RACK_MOST_BUDGET = 255,
-    RACK_MOST_LIMIT = 65535
+    RACK_MOST_LIMIT = 65535,
+    RACK_MOST_LIVE = 8
 };
 
 /* The least length of each list, in elements. Marks and correction need as many elements as the code has qubits, forms four times as many, at a
@@ -81,7 +82,7 @@ enum rack_word {
     RACK_WORD_STOPPED = 5
 };
 
-/* The number of a refusal; 0 where the library refused nothing. 10 and 13 to 16 are not used. */
+/* The number of a refusal; 0 where the library refused nothing. 10, 13 and 14 are not used; 15 and 16 are of candidates, no record gets them. */
 enum rack_refusal {
     RACK_REFUSAL_UNKNOWN = 1,
     RACK_REFUSAL_LENGTH = 2,
@@ -94,6 +95,8 @@ enum rack_refusal {
     RACK_REFUSAL_TWICE = 9,
     RACK_REFUSAL_SPOILED = 11,
     RACK_REFUSAL_SHORT = 12,
+    RACK_REFUSAL_UNFINISHED = 15,
+    RACK_REFUSAL_MANY = 16,
     RACK_REFUSAL_ENCODED = 17
 };
 
@@ -164,6 +167,25 @@ struct rack_reply rack_step(
     uint64_t *z_forms, size_t z_forms_length,
     uint8_t *z_correction, size_t z_correction_length,
     const uint8_t *bytes, size_t bytes_length);
+
+/* One candidate of a half, from lists of the caller's; `rack_x_candidate` and `rack_z_candidate` are this on a `struct rack`.
+ *
+ * Of n qubits and a half's word, live count, marks and forms as a decode left them: into the first n elements of `candidate` what the forms give with
+ * live guess i set to bit i - 1 of `number`, 1 for each qubit to flip, else 0; what is past them stays. The numbers are 0 to 2^live - 1. Every error that
+ * fits differs by a product of rows of the other kind from exactly one of these candidates, whichever rows were read; number 0 is the correction, and a
+ * certain half has no other. Over a live count, marks or forms that were altered a candidate is still what the forms give.
+ *
+ * 0, or the first of these refusals that applies, and then nothing is written: RACK_REFUSAL_SHORT where `candidate` or `marks` has fewer than n elements
+ * or `forms` fewer than 4 * n; RACK_REFUSAL_UNFINISHED for any word but RACK_WORD_CERTAIN and RACK_WORD_UNSURE, or where one of the first n marks is
+ * RACK_MARK_OPEN; RACK_REFUSAL_MANY where `live` is above RACK_MOST_LIVE, or `number` 2^live or more.
+ *
+ * The caller owes what `rack_step` asks of pointers and lists. */
+RACK_MUST_USE uint16_t rack_candidate(
+    uint16_t n, uint16_t word, uint16_t live,
+    const uint8_t *marks, size_t marks_length,
+    const uint64_t *forms, size_t forms_length,
+    uint64_t number,
+    uint8_t *candidate, size_t candidate_length);
 
 /* ---- Records ---- */
 
@@ -315,6 +337,30 @@ static inline struct rack_reply rack_take(struct rack *r, struct rack_record rec
     return rack_take_bytes(r, record.bytes, record.length);
 }
 
+/* Candidates of a half, by its marks and forms in `r`. */
+static inline uint16_t rack_candidate_of(
+    const struct rack *r, uint16_t n, struct rack_half half, const uint8_t *marks, const uint64_t *forms,
+    uint64_t number, uint8_t *candidate, size_t candidate_length) {
+    if (r->version != RACK_VERSION)
+        return RACK_REFUSAL_UNFINISHED;
+    return rack_candidate(
+        n, half.word, half.live, marks, RACK_LEAST_MARKS, forms, RACK_LEAST_FORMS, number, candidate, candidate_length);
+}
+
+/* Candidate `number` of the X half of the last decode of `r`, which was answered by `reply`: see `rack_candidate`. Numbers are below 2^live, and the list
+ * has at least as many elements as the code has qubits. RACK_REFUSAL_UNFINISHED also for a reply that is no report, and without a start, where there is no
+ * call. */
+RACK_MUST_USE static inline uint16_t rack_x_candidate(
+    const struct rack *r, struct rack_reply reply, uint64_t number, uint8_t *candidate, size_t candidate_length) {
+    return rack_candidate_of(r, reply.state.n, reply.x, r->x_marks, r->x_forms, number, candidate, candidate_length);
+}
+
+/* The same of the Z half. */
+RACK_MUST_USE static inline uint16_t rack_z_candidate(
+    const struct rack *r, struct rack_reply reply, uint64_t number, uint8_t *candidate, size_t candidate_length) {
+    return rack_candidate_of(r, reply.state.n, reply.z, r->z_marks, r->z_forms, number, candidate, candidate_length);
+}
+
 /* ---- Words for people ---- */
 
 static inline const char *rack_word_name(uint16_t word) {
@@ -341,6 +387,8 @@ static inline const char *rack_refusal_name(uint16_t refusal) {
     case RACK_REFUSAL_TWICE: return "twice";
     case RACK_REFUSAL_SPOILED: return "spoiled";
     case RACK_REFUSAL_SHORT: return "short";
+    case RACK_REFUSAL_UNFINISHED: return "unfinished";
+    case RACK_REFUSAL_MANY: return "many";
     case RACK_REFUSAL_ENCODED: return "encoded";
     default: return "no refusal";
     }

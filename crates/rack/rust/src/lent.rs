@@ -1,4 +1,4 @@
-//! One call on lists that the caller owns.
+//! Calls on lists that the caller owns.
 
 use crate::raw::{self, Reply, State};
 
@@ -17,6 +17,17 @@ pub struct Lent<'a> {
     pub work: &'a mut [u64],
     pub x: Three<'a>,
     pub z: Three<'a>,
+}
+
+/// What a candidate is made from: the code's qubits, and a half's word, live count, marks and forms
+/// as a decode left them.
+#[derive(Clone, Copy)]
+pub struct Shown<'a> {
+    pub n: u16,
+    pub word: u16,
+    pub live: u16,
+    pub marks: &'a [u8],
+    pub forms: &'a [u64],
 }
 
 /// The library's version.
@@ -63,5 +74,25 @@ pub unsafe fn step(state: State, lent: &mut Lent, bytes: &[u8]) -> Reply {
         lent.z.correction.len(),
         bytes.as_ptr(),
         bytes.len(),
+    )
+}
+
+/// One candidate into the list's first n elements: 0, or the number of a refusal, and then nothing
+/// is written. `Half::candidate` says what it is.
+///
+/// # Safety
+/// The library's version is `raw::VERSION`. The lists are slices, as for `step`.
+pub unsafe fn candidate(half: Shown, number: u64, candidate: &mut [u8]) -> u16 {
+    raw::rack_candidate(
+        half.n,
+        half.word,
+        half.live,
+        half.marks.as_ptr(),
+        half.marks.len(),
+        half.forms.as_ptr(),
+        half.forms.len(),
+        number,
+        candidate.as_mut_ptr(),
+        candidate.len(),
     )
 }

@@ -3,7 +3,8 @@
 //! A [`Rack`] owns its lists and takes a record a call: a code's sizes and rows and the number of
 //! its logical qubits, then for each shot the lost qubits, the lit rows, the rows that could not be
 //! read, and a decode. What is refused is an error. A decode's [`Report`] borrows the rack's lists,
-//! so it can't be read after another call has changed them.
+//! so it can't be read after another call has changed them; [`Half::candidate`] shows each class of
+//! errors that fit once.
 //!
 //! Which half reads which rows: the X half holds X errors, found from the Z rows, so
 //! [`Rack::lit_z`] and [`Rack::unread_z`] are about the X half. The Z half holds Z errors, found

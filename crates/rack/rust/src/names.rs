@@ -61,7 +61,8 @@ names! {
     /// Why a record is refused. Lost qubits and lit or unread rows: codeless without a complete
     /// code, range where there is no such qubit or row, twice for a qubit that is lost already or
     /// a row that is lit or unread already. Logical qubits: codeless without a complete code,
-    /// encoded where its rows encode another number.
+    /// encoded where its rows encode another number. Candidates: short, then unfinished where the
+    /// half is, then many for more than `most::LIVE` live guesses or a number that none has.
     Refusal, "refusal", u16;
     Unknown = refusal::UNKNOWN, "unknown";
     Length = refusal::LENGTH, "length";
@@ -74,6 +75,8 @@ names! {
     Twice = refusal::TWICE, "twice";
     Spoiled = refusal::SPOILED, "spoiled";
     Short = refusal::SHORT, "short";
+    Unfinished = refusal::UNFINISHED, "unfinished";
+    Many = refusal::MANY, "many";
     Encoded = refusal::ENCODED, "encoded";
 }
 

@@ -38,8 +38,10 @@ impl Lists {
     }
 
     /// What a decode of a code of n qubits left here.
-    fn half(&self, half: raw::Half, n: usize) -> Result<Half<'_>, Error> {
-        Half::new(half, [&self.marks[..n], &self.correction[..n]], &self.forms[..4 * n])
+    fn half(&self, half: raw::Half, n: u16) -> Result<Half<'_>, Error> {
+        let end = usize::from(n);
+        let lists = [&self.marks[..end], &self.correction[..end]];
+        Half::new(half, n, lists, &self.forms[..4 * end])
     }
 }
 
@@ -147,7 +149,7 @@ impl Rack {
                 Ok(Answer::Complete(Sizes { n, x, z }))
             }
             answer::DECODED => {
-                let n = reply.state.n.into();
+                let n = reply.state.n;
                 let (x, z) = (self.x.half(reply.x, n)?, self.z.half(reply.z, n)?);
                 Ok(Answer::Decoded(Report { x, z }))
             }

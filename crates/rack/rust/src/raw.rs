@@ -1,7 +1,7 @@
 //! What `include/rack.h` declares, number for number.
 
 /// The version of records, lists and structs.
-pub const VERSION: u16 = 5;
+pub const VERSION: u16 = 6;
 
 /// The kind of a record, its first byte. A row's is this and as many more as it has qubits.
 pub mod kind {
@@ -17,13 +17,15 @@ pub mod kind {
     pub const Z_ROW: u8 = 64;
 }
 
-/// The most that a record may carry.
+/// The most that a record may carry, and the most live guesses of a half whose candidates are
+/// shown.
 pub mod most {
     pub const QUBITS: usize = 1024;
     pub const ROWS: usize = 512;
     pub const WEIGHT: usize = 16;
     pub const BUDGET: usize = 255;
     pub const LIMIT: usize = 65535;
+    pub const LIVE: usize = 8;
 }
 
 /// The least length of each list, in elements. Marks and correction need as many elements as the
@@ -55,7 +57,8 @@ pub mod word {
     pub const STOPPED: u16 = 5;
 }
 
-/// The number of a refusal; 0 where the library refused nothing. 10 and 13 to 16 are not used.
+/// The number of a refusal; 0 where the library refused nothing. 10, 13 and 14 are not used; 15 and
+/// 16 are of candidates, no record gets them.
 pub mod refusal {
     pub const UNKNOWN: u16 = 1;
     pub const LENGTH: u16 = 2;
@@ -68,6 +71,8 @@ pub mod refusal {
     pub const TWICE: u16 = 9;
     pub const SPOILED: u16 = 11;
     pub const SHORT: u16 = 12;
+    pub const UNFINISHED: u16 = 15;
+    pub const MANY: u16 = 16;
     pub const ENCODED: u16 = 17;
 }
 
@@ -151,4 +156,16 @@ extern "C" {
         bytes: *const u8,
         bytes_length: usize,
     ) -> Reply;
+    pub fn rack_candidate(
+        n: u16,
+        word: u16,
+        live: u16,
+        marks: *const u8,
+        marks_length: usize,
+        forms: *const u64,
+        forms_length: usize,
+        number: u64,
+        candidate: *mut u8,
+        candidate_length: usize,
+    ) -> u16;
 }

@@ -1,6 +1,8 @@
 //! What a record is answered.
 
-use crate::{raw, Error, Mark, Word};
+use crate::lent::{self, Shown};
+use crate::raw::{self, most};
+use crate::{Error, Mark, Refusal, Word};
 
 /// The answer to a record that is carried out.
 #[derive(Clone, Copy, PartialEq, Eq, Debug)]
@@ -41,19 +43,22 @@ pub struct Half<'a> {
     pub forms: &'a [u64],
     /// 1 for each qubit to flip, else 0; of a half that is not finished 0.
     pub correction: &'a [u8],
+    /// The code's qubits.
+    n: u16,
 }
 
 impl<'a> Half<'a> {
-    /// A half's numbers beside its lists.
+    /// A half's numbers beside its lists, which have an element for each of n qubits, forms four.
     pub(crate) fn new(
         half: raw::Half,
+        n: u16,
         lists: [&'a [u8]; 2],
         forms: &'a [u64],
     ) -> Result<Self, Error> {
         let raw::Half { word, fixed, turns, guesses, live } = half;
         let [marks, correction] = lists;
         let word = Word::try_from(word)?;
-        Ok(Half { word, fixed, turns, guesses, live, marks, forms, correction })
+        Ok(Half { word, fixed, turns, guesses, live, marks, forms, correction, n })
     }
 
     pub fn finished(&self) -> bool {
@@ -74,5 +79,30 @@ impl<'a> Half<'a> {
     /// What became of a qubit of the code.
     pub fn mark(&self, qubit: usize) -> Result<Mark, Error> {
         Mark::try_from(self.marks[qubit])
+    }
+
+    /// How many classes of errors fit, each with a candidate; nothing of a half that is not
+    /// finished or has more than `most::LIVE` live guesses, whose candidates are not shown.
+    pub fn candidates(&self) -> Option<u64> {
+        let shown = self.finished() && usize::from(self.live) <= most::LIVE;
+        shown.then(|| 1 << self.live)
+    }
+
+    /// A candidate into the list's first elements, 1 for each qubit to flip, else 0; what is past
+    /// the code's qubits stays. It is what the forms give with live guess i set to bit i - 1 of the
+    /// number. Every error that fits differs by a product of rows of the other kind from exactly one
+    /// of the candidates 0 to `candidates` - 1; candidate 0 is the correction.
+    ///
+    /// Where it is refused nothing is written: `Refusal::Short` for a list with fewer elements than
+    /// the code has qubits, `Refusal::Unfinished` for a half that is not finished, `Refusal::Many`
+    /// for more than `most::LIVE` live guesses or a number that no candidate has.
+    pub fn candidate(&self, number: u64, candidate: &mut [u8]) -> Result<(), Error> {
+        let Half { n, live, marks, forms, .. } = *self;
+        let half = Shown { n, word: self.word.number(), live, marks, forms };
+        // Only a rack makes a half, and `Rack::new` compared the versions.
+        match unsafe { lent::candidate(half, number, candidate) } {
+            0 => Ok(()),
+            refusal => Err(Error::Refused(Refusal::try_from(refusal)?)),
+        }
     }
 }
