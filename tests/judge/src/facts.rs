@@ -2,6 +2,7 @@
 
 use crate::bench::{self, Bench};
 use crate::bits::Bits;
+use crate::candidates;
 use crate::codes::{rank, Code};
 use crate::families::Family;
 use crate::half::{Asked, Half, Report, Row, Word};
@@ -95,6 +96,7 @@ impl Facts {
             for half in &decode.halves() {
                 tried(half, &mut note);
                 rule.judged(half, asked, &mut note);
+                rule.candidates(half, asked, &mut note);
                 rule.larger(half, asked, random, &mut note);
                 rule.fixing_off(half, asked, &mut note);
                 rule.left_out(half, asked, &mut note);
@@ -151,6 +153,13 @@ impl Rule {
             let all = report.counts.turns + report.counts.fixed;
             let holds = ensure(all == verdict.lost, || "turns are not lost less fixed".into());
             note("finished halves' turns", holds);
+        }
+    }
+
+    /// The candidates that the machine's report shows, by elimination.
+    fn candidates(self, half: &Half, asked: Asked, note: &mut Note) {
+        if let Some(judged) = candidates::judged(self.0, half, &self.decode(half, asked)) {
+            note("each class shown once", judged);
         }
     }
 

@@ -1,8 +1,10 @@
-//! Tests from outside: document 01, with unread rows and logical qubits compared, written a second
-//! time, plainly, and a judge that needs no turns.
+//! Tests from outside: document 01, with unread rows, logical qubits compared and candidates, written
+//! a second time, plainly, and a judge that needs no turns.
 
+pub mod asks;
 pub mod bench;
 pub mod bits;
+pub mod candidates;
 pub mod codes;
 pub mod compared;
 pub mod facts;

@@ -38,6 +38,17 @@ impl Span {
         self.leads().count()
     }
 
+    /// The vector without ones at the leads that differs from the given one by a vector in the span.
+    pub fn rest(&self, mut vector: Bits) -> Bits {
+        for (place, kept) in self.led.iter().enumerate() {
+            match kept {
+                Some(kept) if vector.get(place) => vector.add(kept),
+                _ => {}
+            }
+        }
+        vector
+    }
+
     /// The vector orthogonal to the span that has the given ones off the leads.
     pub fn orthogonal(&self, mut vector: Bits) -> Bits {
         for place in (0..self.led.len()).rev() {

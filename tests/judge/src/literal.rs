@@ -40,11 +40,15 @@ pub fn fixed(half: &Half) -> Vec<usize> {
     lowest.into_iter().collect()
 }
 
+/// Every error that fits.
+fn errors<'a>(half: &'a Half) -> impl Iterator<Item = Bits> + 'a {
+    let lost = half.lost.ones();
+    let error = move |places: Vec<usize>| Bits::of(half.n, places.into_iter().map(|at| lost[at]));
+    subsets(half.lost.count()).map(error).filter(|error| fits(half, error))
+}
+
 /// The number of classes of errors that fit.
 pub fn classes(half: &Half) -> usize {
-    let lost = half.lost.ones();
-    let error = |places: Vec<usize>| Bits::of(half.n, places.into_iter().map(|at| lost[at]));
-    let all = subsets(lost.len()).map(error).filter(|error| fits(half, error));
     let products = inside(half);
     let first = |error: Bits| -> Row {
         let sums = products.iter().map(|product| {
@@ -54,5 +58,18 @@ pub fn classes(half: &Half) -> usize {
         });
         sums.min().unwrap_or_default()
     };
-    all.map(first).collect::<BTreeSet<Row>>().len()
+    errors(half).map(first).collect::<BTreeSet<Row>>().len()
+}
+
+/// Whether each error that fits differs by a product from exactly one of these.
+pub fn once(half: &Half, candidates: &[Bits]) -> bool {
+    let products = products(half.n, half.other);
+    let of_one_class = |first: &Bits, second: &Bits| {
+        let mut sum = first.clone();
+        sum.add(second);
+        products.contains(&sum.ones())
+    };
+    errors(half).all(|error| {
+        candidates.iter().filter(|candidate| of_one_class(candidate, &error)).count() == 1
+    })
 }

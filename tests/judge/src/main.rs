@@ -1,5 +1,6 @@
 //! Command line of the tests from outside.
 
+use judge::asks;
 use judge::facts::Facts;
 use judge::families::Family;
 use judge::generate::{records, Mix};
@@ -156,16 +157,22 @@ fn check_wrongs(arguments: &Arguments) -> Result<bool, String> {
     let seeds = arguments.seed()?.map_or(SEEDS.to_vec(), |seed| vec![seed]);
     let shots = arguments.shots(10_000)?;
     let mut tally = (0, 0);
-    for (name, _) in Wrong::ALL {
+    for (name, wrong) in Wrong::ALL {
         let args = ["shots", "--wrong", name].map(String::from).into();
         let program = Program { path: path.clone(), args };
-        let failure = seeds.iter().find_map(|&seed| Some((seed, program.seed(seed, shots).err()?)));
-        match failure {
+        let caught = |seed: u64| {
+            if Wrong::OF_CANDIDATES.contains(wrong) {
+                return asks::caught(*wrong, seed, shots);
+            }
+            let Failure { passed, judged, .. } = program.seed(seed, shots).err()?;
+            Some((passed, judged))
+        };
+        match seeds.iter().find_map(|&seed| Some((seed, caught(seed)?))) {
             None => {
                 println!("{name}: MISSED");
                 tally.1 += 1;
             }
-            Some((seed, Failure { passed, judged, .. })) => {
+            Some((seed, (passed, judged))) => {
                 let judged = judged.map_or_else(|why| why, |()| "differs only".into());
                 println!(
                     "{name}: caught after {passed} shots of seed {seed}, by elimination: {judged}"

@@ -8,16 +8,20 @@ use crate::shot::{alike, Shot};
 use crate::stream::{body, LOGICAL};
 use std::cmp::Reverse;
 
+/// Rules that the lines of `shots` tell of, then those that candidates tell of.
 macro_rules! wrongs {
-    ($($variant:ident $name:literal)*) => {
+    ($($variant:ident $name:literal)*; $($shown:ident $shown_name:literal)*) => {
         #[derive(Clone, Copy, PartialEq, Eq, Debug)]
         pub enum Wrong {
             Nothing,
-            $($variant),*
+            $($variant,)*
+            $($shown,)*
         }
 
         impl Wrong {
-            pub const ALL: &'static [(&'static str, Wrong)] = &[$(($name, Wrong::$variant)),*];
+            pub const ALL: &'static [(&'static str, Wrong)] =
+                &[$(($name, Wrong::$variant),)* $(($shown_name, Wrong::$shown),)*];
+            pub const OF_CANDIDATES: &'static [Wrong] = &[$(Wrong::$shown),*];
         }
     };
 }
@@ -112,6 +116,25 @@ wrongs! {
     HalvesCrossed "halves-crossed"
     CutOffSilent "cut-off-silent"
     UnknownGoesOn "unknown-goes-on"
+    ;
+    // What a candidate is.
+    NextBit "guess-i-by-bit-i"
+    NewestFirst "newest-guess-by-bit-0"
+    ConstantForgotten "constant-forgotten"
+    FormsByQubit "forms-from-element-q"
+    // Which candidate is refused.
+    UnfinishedFirst "15-before-12"
+    ManyFirst "16-before-15"
+    FormsOfOneWord "forms-of-n-words-taken"
+    WordUnseen "candidates-of-any-word"
+    CertainUnshown "no-candidate-of-certain"
+    MarksUnseen "marks-not-looked-at"
+    LastMarkUnseen "last-mark-not-looked-at"
+    MarksPastSeen "marks-past-n-looked-at"
+    NineLive "9-live-taken"
+    AnyLive "any-live-taken"
+    EndTaken "number-2^live-taken"
+    NumberUnseen "any-number-taken"
 }
 
 /// What a row that was read does in a half's turns.

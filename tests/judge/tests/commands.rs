@@ -31,7 +31,8 @@ fn wrong_rules_are_caught() {
 /// Whether elimination alone sees that a rule is wrong.
 fn eliminated(name: &str, shots: &str) {
     let (success, printed) = judge(&["self", "--seed", "1", "--shots", shots, "--wrong", name]);
-    let judged = ["words, counts and flips: ", "marks, forms and corrections: "];
+    let judged =
+        ["words, counts and flips: ", "marks, forms and corrections: ", "each class shown once: "];
     assert!(!success && judged.iter().any(|fact| printed.contains(fact)), "{name}");
 }
 
@@ -58,6 +59,17 @@ fn elimination_alone_catches_unread_rows() {
 fn elimination_alone_catches_lost_bits() {
     let broken =
         ["lost-at-border-64", "lost-at-border-128", "lost-at-border-192", "forms-of-255-bits"];
+    broken.iter().for_each(|name| eliminated(name, "300"));
+}
+
+#[test]
+fn elimination_alone_catches_wrong_candidates() {
+    let broken = [
+        "guess-i-by-bit-i",
+        "constant-forgotten",
+        "forms-from-element-q",
+        "no-candidate-of-certain",
+    ];
     broken.iter().for_each(|name| eliminated(name, "300"));
 }
 
