@@ -13,3 +13,7 @@ void rack_fresh(void) {
 void rack_step(void) {
     abort();
 }
+
+void rack_candidate(void) {
+    abort();
+}

@@ -2,7 +2,8 @@
 
 use crate::watch::CASE;
 use crate::{
-    agrees, altered, bench, garbage, large, larger, logical, makers, numbers, owned, short, Checked,
+    agrees, altered, bench, candidates, garbage, large, larger, logical, makers, numbers, owned,
+    short, Checked,
 };
 use std::process::{Command, Output};
 
@@ -10,7 +11,7 @@ use std::process::{Command, Output};
 type Check = fn(u64, usize) -> Checked;
 
 /// Each check with its share of the shots, in percent.
-pub const ALL: [(&str, Check, usize); 14] = [
+pub const ALL: [(&str, Check, usize); 15] = [
     ("numbers", numbers::numbers, 100),
     ("makers", makers::makers, 100),
     ("owned", owned::owned, 100),
@@ -19,6 +20,7 @@ pub const ALL: [(&str, Check, usize); 14] = [
     ("words", agrees::words, 10),
     ("large", large::large, 100),
     ("logical", logical::logical, 100),
+    ("candidates", candidates::candidates, 100),
     ("longer", agrees::longer, 30),
     ("one-short", short::one_short, 100),
     ("any-short", short::any_short, 50),

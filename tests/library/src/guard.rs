@@ -87,9 +87,11 @@ impl Region {
     }
 
     /// Runs with the region read-only.
-    pub fn locked<T>(&self, run: impl FnOnce(&[u8]) -> T) -> T {
+    pub fn locked<N: Number, T>(&self, run: impl FnOnce(&[N]) -> T) -> T {
+        let (first, length) = self.first();
         self.allow(READ);
-        let done = run(self.list());
+        // As in `place`, and aligned.
+        let done = run(unsafe { from_raw_parts(first, length) });
         self.allow(READ | WRITE);
         done
     }
@@ -103,13 +105,18 @@ impl Region {
         &self.all()[self.list.clone()]
     }
 
-    pub fn elements<T: Number>(&mut self) -> &mut [T] {
-        let length = self.list.len() / size_of::<T>();
+    /// Where the list's elements begin, aligned, and how many they are.
+    fn first<N: Number>(&self) -> (*mut N, usize) {
         // Inside the region, or at its end if the list is empty.
         let first = unsafe { self.start().add(self.list.start) };
-        assert!(first.addr().is_multiple_of(align_of::<T>()), "elements are aligned");
+        assert!(first.addr().is_multiple_of(align_of::<N>()), "elements are aligned");
+        (first.cast(), self.list.len() / size_of::<N>())
+    }
+
+    pub fn elements<N: Number>(&mut self) -> &mut [N] {
+        let (first, length) = self.first();
         // As in `place`, and aligned.
-        unsafe { from_raw_parts_mut(first.cast(), length) }
+        unsafe { from_raw_parts_mut(first, length) }
     }
 
     pub fn intact(&self) -> bool {

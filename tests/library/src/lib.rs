@@ -3,8 +3,10 @@
 pub mod agrees;
 pub mod alter;
 pub mod altered;
+pub mod asker;
 pub mod bench;
 pub mod caller;
+pub mod candidates;
 pub mod checks;
 pub mod garbage;
 pub mod guard;

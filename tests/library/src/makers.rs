@@ -77,8 +77,8 @@ fn names() -> Vec<Asking> {
         "short",
         "no refusal",
         "no refusal",
-        "no refusal",
-        "no refusal",
+        "unfinished",
+        "many",
         "encoded",
         "no refusal",
     ];

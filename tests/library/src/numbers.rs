@@ -1,6 +1,7 @@
 //! The header's constants are the Rust crate's, the specs' and the judge's.
 
 use crate::Checked;
+use judge::candidates::MOST_LIVE;
 use judge::codes::{QUBITS, ROWS, WEIGHT};
 use judge::form::WORDS;
 use judge::half::{mark as judged, Asked};
@@ -14,6 +15,7 @@ const RAW: &str = include_str!("../../../crates/rack/rust/src/raw.rs");
 const PLAIN: &str = include_str!("../../../crates/plain/specs/Plain.antt");
 const MACHINE: &str = include_str!("../../../crates/machine/specs/Machine.antt");
 const TABLE: &str = include_str!("../../../crates/records/specs/Table.antt");
+const CANDIDATES: &str = include_str!("../../../crates/records/specs/Candidates.antt");
 const LISTS: &str = include_str!("../../../crates/records/specs/Lists.antt");
 
 /// Names as the header has them, with their numbers.
@@ -90,7 +92,7 @@ fn names(header: &Numbers) -> Judged {
     for number in 0..=u16::MAX {
         let word = Word::try_from(number).is_ok_and(|word| word.number() == number);
         let refusal = Refusal::try_from(number).is_ok_and(|why| why.number() == number);
-        let known = [matches!(number, 1..=5), matches!(number, 1..=9 | 11 | 12 | 17)];
+        let known = [matches!(number, 1..=5), matches!(number, 1..=9 | 11 | 12 | 15..=17)];
         ensure([word, refusal] == known, || format!("{number} is read as a word or a refusal"))?;
     }
     for number in 0..=u8::MAX {
@@ -116,8 +118,11 @@ fn specs(header: &Numbers) -> Judged {
     same("wordNumber", &part(header, "WORD_"), words)?;
     let phases = clauses(PLAIN, "phaseNumber", "PHASE_");
     same("phaseNumber", &part(header, "PHASE_"), phases)?;
-    let refusals = clauses(TABLE, "refusalNumber", "REFUSAL_");
-    same("refusalNumber", &part(header, "REFUSAL_"), refusals)?;
+    let mut refusals = clauses(TABLE, "refusalNumber", "REFUSAL_");
+    refusals.extend(clauses(CANDIDATES, "candidateNumber", "REFUSAL_"));
+    refusals.sort_by_key(|&(_, number)| number);
+    refusals.dedup();
+    same("the specs'", &part(header, "REFUSAL_"), refusals)?;
     let short = LISTS.lines().find(|line| line.starts_with("shortLists l work ="));
     let short = short.expect("a definition of short lists");
     let lists = ["(length (l .flat))", "(length (l .ends))", "(length (l .shot))", "work"];
@@ -138,7 +143,7 @@ fn specs(header: &Numbers) -> Judged {
 /// Document 01's numbers, as the judge has them.
 fn judge(header: &Numbers) -> Judged {
     let Asked { budget, limit } = Asked::AMPLE;
-    let most = [QUBITS, ROWS, WEIGHT, budget, limit];
+    let most = [QUBITS, ROWS, WEIGHT, budget, limit, MOST_LIVE];
     let marks = [judged::NOT_LOST, judged::FIXED, judged::PEELED, judged::GUESSED, judged::OPEN];
     let kinds = [1, 2, 3, 4, 5, 6, 7, LOGICAL, X_ROW, Z_ROW];
     let lists = [16_384, 1_024, 2_048, 10_240, QUBITS, WORDS * QUBITS, QUBITS];

@@ -1,6 +1,7 @@
 //! The Rust crate's rack, with lists of its own, against the model.
 
 use crate::{watch, Checked};
+use judge::candidates::Ask;
 use judge::codes::Code;
 use judge::generate::{records, Mix};
 use judge::half::Report;
@@ -47,7 +48,8 @@ fn step(rack: &mut Rack, model: &mut Model, record: &Record) -> Judged {
         }
         (Ok(Answer::Decoded(report)), stream::Answer::Decode(decode)) => {
             let halves = decode.halves().map(|half| machine::decode(&half, decode.asked));
-            shows(&report.x, &halves[0]) && shows(&report.z, &halves[1])
+            let mut told = [report.x, report.z].into_iter().zip(halves);
+            told.all(|(half, report)| shows(&half, &report) && candidates(&half, &report))
         }
         _ => false,
     };
@@ -68,6 +70,29 @@ fn shows(half: &Half, report: &Report) -> bool {
         && half.forms == report.forms.iter().flat_map(|form| form.0).collect::<Vec<u64>>()
         && half.correction == report.correction
         && half.flips() == said.flips
+}
+
+/// All candidates, one past them, and lists that are short or longer: each answer is the model's.
+fn candidates(half: &Half, report: &Report) -> bool {
+    let ask = Ask::of(report);
+    let count = ask.all().count() as u64;
+    let past = Ask { number: count, ..ask.clone() };
+    let rooms = [ask.n - 1, ask.n + 3].map(|room| Ask { room, ..ask.clone() });
+    half.candidates() == (count > 0).then_some(count)
+        && ask.all().chain([past]).chain(rooms).all(|ask| candidate(half, &ask))
+}
+
+fn candidate(half: &Half, ask: &Ask) -> bool {
+    const BEFORE: u8 = 7;
+    let mut list = vec![BEFORE; ask.room];
+    let shown = half.candidate(ask.number, &mut list);
+    let (first, rest) = list.split_at(ask.n.min(ask.room));
+    let kept = |list: &[u8]| list.iter().all(|&element| element == BEFORE);
+    match (shown, ask.answer()) {
+        (Ok(()), Ok(expected)) => first == expected && kept(rest),
+        (Err(Error::Refused(why)), Err(number)) => why.number() == number.into() && kept(&list),
+        _ => false,
+    }
 }
 
 /// Rows of no qubits or too many are refused as unknown, and loading goes on.

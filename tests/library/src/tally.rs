@@ -14,7 +14,7 @@ pub struct Tally {
     words: [usize; Word::ALL.len()],
     /// The most live guesses that a half was reported with.
     live: u16,
-    /// In the order of `Refusal::ALL`.
+    /// In the order of `of_records`.
     refusals: [usize; Refusal::ALL.len()],
 }
 
@@ -37,21 +37,19 @@ impl Tally {
         Ok(())
     }
 
-    /// Fails if many calls did not meet every word and every refusal.
+    /// Fails if many calls did not meet every word and every refusal of records.
     pub fn all(&self) -> Checked {
-        self.all_of(Refusal::ALL)
+        self.all_of(of_records())
     }
 
     /// The same where no list is short.
     pub fn all_but_short(&self) -> Checked {
-        let others = Refusal::ALL.iter().copied().filter(|&why| why != Refusal::Short);
-        self.all_of(&others.collect::<Vec<Refusal>>())
+        self.all_of(of_records().filter(|&why| why != Refusal::Short))
     }
 
-    fn all_of(&self, refusals: &[Refusal]) -> Checked {
-        let count = |why: &Refusal| self.refusals[place(why.number()).expect("a refusal")];
-        let met =
-            self.words.iter().copied().chain(refusals.iter().map(count)).all(|count| count > 0);
+    fn all_of(&self, refusals: impl Iterator<Item = Refusal>) -> Checked {
+        let count = |why: Refusal| self.refusals[place(why.number()).expect("a refusal")];
+        let met = self.words.iter().copied().chain(refusals.map(count)).all(|count| count > 0);
         ensure(met || !self.enough(), || format!("not all was met: {self}"))?;
         Ok(self.to_string())
     }
@@ -81,9 +79,15 @@ impl Tally {
     }
 }
 
-/// Where a refusal's number is in `Refusal::ALL`.
+/// What records are refused with; the others are refusals of candidates.
+fn of_records() -> impl Iterator<Item = Refusal> {
+    let all = Refusal::ALL.iter().copied();
+    all.filter(|why| !matches!(why, Refusal::Unfinished | Refusal::Many))
+}
+
+/// Where a number that records are refused with is among them.
 fn place(number: u16) -> Option<usize> {
-    Refusal::ALL.iter().position(|why| why.number() == number)
+    of_records().position(|why| why.number() == number)
 }
 
 /// Whether answer, refusal, words and the state's parts have values of the header.
@@ -108,7 +112,7 @@ impl Display for Tally {
             write!(to, ", {} {count}", word.name())?;
         }
         write!(to, ", up to {} live guesses", self.live)?;
-        for (why, count) in Refusal::ALL.iter().zip(self.refusals).filter(|(_, count)| *count > 0) {
+        for (why, count) in of_records().zip(self.refusals).filter(|(_, count)| *count > 0) {
             write!(to, ", refused {} {count}", why.number())?;
         }
         Ok(())
