@@ -1,21 +1,14 @@
 -- The lowest bit of a word: what the count of trailing zeros finds. Assumes nothing.
-use mathlib.Core.Path.{_≡_, sym, ap, _∙_}
+use mathlib.Core.Path.{_≡_, _∙_}
 use mathlib.Core.Bool.{true, false}
 use mathlib.Core.Logic.{_⊎_, inl, inr}
-use Prim.Native.Nat.{ℕ, zero, suc, _+_, _/_, _%_, _^_, _≤_, _<_}
+use Prim.Native.Nat.{ℕ, zero, suc, _/_, _%_, _^_, _≤_, _<_}
 use native.Mathlib.Nat.{pow-succ'}
 use native.Mathlib.Omega.{arith}
 use lib.Count.{under, trailingZeros}
-use lib.Dec.{eqb}
 use Rattle.binary.specs.Words.{bit}
-use Rattle.binary.proofs.WordBits.{parity, bit-shr}
-
-bit-next : (n j : ℕ) → bit n (suc j) ≡ bit (n / 2) j
-bit-next n j = let e : 1 + j ≡ suc j = omega arith in ap (bit n) (sym e) ∙ sym (bit-shr n 1 j)
-
-bit-first : (n : ℕ) → bit n 0 ≡ eqb (n % 2) 1
-unfolding bit
-bit-first n = let e : n / 1 ≡ n = omega arith in rw e
+use Rattle.binary.proofs.WordBits.{parity}
+use Rattle.binary.proofs.NumberBits.{bit-first, bit-next}
 
 pub zeros-below : (k n j : ℕ) → j < trailingZeros k n → bit n j ≡ false
 unfolding trailingZeros

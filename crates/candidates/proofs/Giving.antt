@@ -1,7 +1,6 @@
 -- A candidate by words: the parity of a form's bits in a mask is the form's value, and the answers to the tests. Assumes nothing.
 use mathlib.Core.Path.{_≡_, refl, sym, ap, ap₂, _∙_}
 use mathlib.Core.Bool.{Bool, true, false, not, _&&_, _||_}
-use mathlib.Core.Logic.{_⊎_, ⊎-elim}
 use mathlib.Core.Option.{Option, none, some}
 use mathlib.Core.List.{List}
 use Prim.Native.Nat.{ℕ, zero, suc, _+_, _*_, _/_, _%_, _^_, _≤_, _<_}
@@ -16,7 +15,7 @@ use lib.Pow.{pow-mono}
 use Rattle.binary.specs.Bits.{_⊕_}
 use Rattle.binary.specs.Words.{bit}
 use Rattle.binary.proofs.Bits.{bit as cases, never, &&-true, or-false}
-use Rattle.binary.proofs.WordBits.{parity, bit-and, one-shl}
+use Rattle.binary.proofs.WordBits.{bit-and, one-shl}
 use Rattle.binary.proofs.NumberBits.{bit-next, odd-first, odd-next, ones-odd, ones-none}
 use Rattle.lists.specs.Filled.{Filled}
 use Rattle.machine.specs.Words.{finished?}
@@ -25,7 +24,7 @@ use Rattle.machine.specs.Fillings.{dot}
 use Rattle.machine.specs.Lists.{formOf, digit}
 use Rattle.machine.specs.Candidates.{candidate}
 use Rattle.machine.proofs.Values.{dot-same}
-use Rattle.machine.proofs.FormWords.{form-first}
+use Rattle.machine.proofs.FormWords.{form-first, rest-digit}
 use Rattle.scans.specs.Scans.{countMarks}
 use Rattle.records.specs.declared.CandidateAnswer.{CandidateAnswer}
 use Rattle.records.specs.declared.CandidateAnswer.the-variants.{Refused, Given}
@@ -43,9 +42,6 @@ parity-dot (suc m) n f g few e =
     let l : n < 2 * 2 ^ m = rw pow-succ' at few in
     ones-odd n
     ∙ ap₂ _⊕_ (e 0 (omega arith)) (parity-dot m (n / 2) (λ i. f (suc i)) (λ i. g (suc i)) (omega arith) (λ k i. sym (bit-next n k) ∙ e (suc k) (omega arith)))
-
-rest-digit : (n : ℕ) → n % 2 ≡ digit (eqb (n % 2) 1)
-rest-digit n = ⊎-elim (λ e. rw e) (λ e. rw e) (parity n)
 
 -- The bits of a form that are in the mask of a number: the form's value with that choice.
 pub mask-value : (live c : ℕ) (forms : List ℕ) (q : ℕ) → live ≤ 8 → c < 2 ^ live
@@ -89,71 +85,82 @@ given-tests false false false e = (refl, refl, refl)
 ----------------------------------------------------------------------
 -- The call
 
--- What the tests tell of a call whose candidate is given.
+-- What the code's tests and their answer are. Marks that are too short are not counted: then a list is short.
+pub record Tested (a : Asked) (long : ℕ) (r : CandidateAnswer) : Type 0 where
+  pub short : Bool
+  pub unfinished : Bool
+  pub many : Bool
+  pub is-short : short ≡ short? a long
+  pub counted : unfinished ≡ (not (finished? (a .word)) || ltb 0 (countMarks (a .n) (a .marks) 4))
+  pub is-many : many ≡ many? a
+  pub answer : r ≡ told short unfinished many
+
+-- What they tell of a call whose candidate is given.
 pub record Room (a : Asked) (long : ℕ) : Type 0 where
   pub list : a .n ≤ long
   pub forms : 4 * a .n ≤ length (a .forms)
   pub live : a .live ≤ 8
   pub number : a .number < 2 ^ a .live
 
--- Where the marks are long enough the open ones are counted; where they are not, a list is short.
-module _ (a : Asked) (long : ℕ) (unfinished : Bool) (counted : unfinished ≡ (not (finished? (a .word)) || ltb 0 (countMarks (a .n) (a .marks) 4))) where
-  marks-long : short? a long ≡ false → a .n ≤ length (a .marks)
-  marks-long e =
-      let s = or-false (ltb long (a .n) || ltb (length (a .marks)) (a .n)) (ltb (length (a .forms)) (4 * a .n)) e in
-      ltb-false (length (a .marks)) (a .n) (or-false (ltb long (a .n)) (ltb (length (a .marks)) (a .n)) (s .0) .1)
+-- The lists that are not short.
+module _ (a : Asked) (long : ℕ) (e : short? a long ≡ false) where
+  both : ((ltb long (a .n) || ltb (length (a .marks)) (a .n)) ≡ false) × (ltb (length (a .forms)) (4 * a .n) ≡ false)
+  both = or-false (ltb long (a .n) || ltb (length (a .marks)) (a .n)) (ltb (length (a .forms)) (4 * a .n)) e
 
-  same-test : short? a long ≡ false → unfinished ≡ unfinished? a
-  same-test e = counted ∙ rw (le-leb (a .n) (length (a .marks)) (marks-long e))
+  list-long : a .n ≤ long
+  list-long = ltb-false long (a .n) (or-false (ltb long (a .n)) (ltb (length (a .marks)) (a .n)) (both .0) .0)
 
-  same-refusal : lowest (candidateTests (short? a long) unfinished (many? a)) ≡ candidateRefusal a long
+  marks-long : a .n ≤ length (a .marks)
+  marks-long = ltb-false (length (a .marks)) (a .n) (or-false (ltb long (a .n)) (ltb (length (a .marks)) (a .n)) (both .0) .1)
+
+  forms-long : 4 * a .n ≤ length (a .forms)
+  forms-long = ltb-false (length (a .forms)) (4 * a .n) (both .1)
+
+module _ {a : Asked} {long : ℕ} {r : CandidateAnswer} (t : Tested a long r) where
+  same-test : short? a long ≡ false → t .unfinished ≡ unfinished? a
+  same-test e = t .counted ∙ rw (le-leb (a .n) (length (a .marks)) (marks-long a long e))
+
+  same-refusal : lowest (candidateTests (short? a long) (t .unfinished) (many? a)) ≡ candidateRefusal a long
   unfolding candidateRefusal
   same-refusal =
-      cases (short? a long) (λ t. rw t) (λ t. ap (λ (u : Bool). lowest (candidateTests (short? a long) u (many? a))) (same-test t))
+      cases (short? a long) (λ e. rw e) (λ e. ap (λ (u : Bool). lowest (candidateTests (short? a long) u (many? a))) (same-test e))
 
-  module _ (short many : Bool) (r : CandidateAnswer) (is-short : short ≡ short? a long) (is-many : many ≡ many? a) (answer : r ≡ told short unfinished many) where
-    same-answer : r ≡ candidateAnswer (candidateRefusal a long)
-    same-answer = answer ∙ ap₂ (λ (s m : Bool). told s unfinished m) is-short is-many ∙ ap candidateAnswer same-refusal
+  same-answer : r ≡ candidateAnswer (candidateRefusal a long)
+  same-answer = t .answer ∙ ap₂ (λ (s m : Bool). told s (t .unfinished) m) (t .is-short) (t .is-many) ∙ ap candidateAnswer same-refusal
 
-    pub given-room : r ≡ Given → Room a long
-    given-room e =
-        let t = given-tests short unfinished many (sym answer ∙ e) in
-        let s = or-false (ltb long (a .n) || ltb (length (a .marks)) (a .n)) (ltb (length (a .forms)) (4 * a .n)) (sym is-short ∙ t .0) in
-        let m = or-false (ltb 8 (a .live)) (leb (2 ^ a .live) (a .number)) (sym is-many ∙ t .2) in
+  pub given-room : r ≡ Given → Room a long
+  given-room e =
+      let u = given-tests (t .short) (t .unfinished) (t .many) (sym (t .answer) ∙ e) in
+      let s = sym (t .is-short) ∙ u .0 in
+      let m = or-false (ltb 8 (a .live)) (leb (2 ^ a .live) (a .number)) (sym (t .is-many) ∙ u .2) in
+      record {
+        list = list-long a long s;
+        forms = forms-long a long s;
+        live = ltb-false 8 (a .live) (m .0);
+        number = leb-false (2 ^ a .live) (a .number) (m .1);
+      }
+
+  pub given-number : r ≡ Given → a .number < 256
+  given-number e = let z = given-room e in lt-of-lt-of-le (z .number) (pow-mono {i = a .live} {j = 8} (z .live))
+
+-- A refusal writes nothing.
+pub gives-none : {a : Asked} {r : CandidateAnswer} (list : List ℕ) → Tested a (length list) r → (why : CandidateRefusal) → r ≡ Refused why → Gives a list list r
+gives-none {a} {r} list t why f = record { answer = same-answer t; list = kept (candidateRefusal a (length list)) (same-answer t) }
+  where
+    kept : (q : Option CandidateRefusal) → r ≡ candidateAnswer q → CandidateIn q a list list
+    kept (some n) i = refl
+    kept none i = let z : _≡_ {A = Bool} true false = cc in never refl z
+
+pub gives-one : {a : Asked} {r : CandidateAnswer} (old new : List ℕ) → Tested a (length old) r → r ≡ Given → (mask : ℕ) → mask ≡ 2 * a .number + 1
+    → Filled (λ q. ones (bitAnd (getD (a .forms) (4 * q) 0) mask) % 2) (a .n) old new → Gives a old new r
+gives-one {a} {r} old new t g mask m filled = record { answer = same-answer t; list = written (candidateRefusal a (length old)) (same-answer t) }
+  where
+    written : (q : Option CandidateRefusal) → r ≡ candidateAnswer q → CandidateIn q a old new
+    written (some n) i = let z : _≡_ {A = Bool} true false = cc in never refl z
+    written none i =
+        let z = given-room t g in
         record {
-          list = ltb-false long (a .n) (or-false (ltb long (a .n)) (ltb (length (a .marks)) (a .n)) (s .0) .0);
-          forms = ltb-false (length (a .forms)) (4 * a .n) (s .1);
-          live = ltb-false 8 (a .live) (m .0);
-          number = leb-false (2 ^ a .live) (a .number) (m .1);
+          long = filled .long;
+          first = λ q l. filled .first q l ∙ rw m (mask-value (a .live) (a .number) (a .forms) q (z .live) (z .number));
+          rest = filled .rest;
         }
-
-    pub given-number : r ≡ Given → a .number < 256
-    given-number e = let z = given-room e in lt-of-lt-of-le (z .number) (pow-mono {i = a .live} {j = 8} (z .live))
-
-    -- A refusal writes nothing.
-    pub gives-none : (list : List ℕ) → length list ≡ long → (why : CandidateRefusal) → r ≡ Refused why → Gives a list list r
-    gives-none list e why f = record { answer = here; list = kept (candidateRefusal a (length list)) here }
-      where
-        here : r ≡ candidateAnswer (candidateRefusal a (length list))
-        here = same-answer ∙ ap (λ (x : ℕ). candidateAnswer (candidateRefusal a x)) (sym e)
-
-        kept : (q : Option CandidateRefusal) → r ≡ candidateAnswer q → CandidateIn q a list list
-        kept (some n) i = refl
-        kept none i = let z : _≡_ {A = Bool} true false = cc in never refl z
-
-    pub gives-one : (old new : List ℕ) → length old ≡ long → r ≡ Given → (mask : ℕ) → mask ≡ 2 * a .number + 1
-        → Filled (λ q. ones (bitAnd (getD (a .forms) (4 * q) 0) mask) % 2) (a .n) old new → Gives a old new r
-    gives-one old new e g mask m filled = record { answer = here; list = written (candidateRefusal a (length old)) here }
-      where
-        here : r ≡ candidateAnswer (candidateRefusal a (length old))
-        here = same-answer ∙ ap (λ (x : ℕ). candidateAnswer (candidateRefusal a x)) (sym e)
-
-        written : (q : Option CandidateRefusal) → r ≡ candidateAnswer q → CandidateIn q a old new
-        written (some n) i = let z : _≡_ {A = Bool} true false = cc in never refl z
-        written none i =
-            let z = given-room g in
-            record {
-              long = filled .long;
-              first = λ q l. filled .first q l ∙ rw m (mask-value (a .live) (a .number) (a .forms) q (z .live) (z .number));
-              rest = filled .rest;
-            }

@@ -16,7 +16,8 @@ use Rattle.binary.specs.Bits.{_⊕_}
 use Rattle.binary.specs.Meaning.{Check}
 use Rattle.binary.specs.Words.{bit}
 use Rattle.binary.proofs.Bits.{bit as cases, ⊕-false, &&-false}
-use Rattle.binary.proofs.WordBits.{order, bit-xor, bit-shr}
+use Rattle.binary.proofs.WordBits.{order, bit-xor}
+use Rattle.binary.proofs.NumberBits.{bit-next}
 use Rattle.machine.specs.Machine.{Form, replace}
 use Rattle.forms.specs.Words.{Words, wordsIn, sideIn}
 use Rattle.forms.specs.Changes.{Changed, adding, addingBelow, replacing, movingDown, movedTo}
@@ -185,7 +186,7 @@ module _ (q u : ℕ) (forms₀ forms : List ℕ) (a : 0 < u) (b : u < 4) (inside
       ∙ by (ℕ-discrete t u)
     where
       shifted : bit (word / 2 ^ 1) j ≡ wordsIn forms q u (suc j)
-      shifted = let d : 1 + j ≡ suc j = omega arith in bit-shr word 1 j ∙ ap (bit word) d ∙ sym (words-in forms q u (suc j) b)
+      shifted = sym (bit-next word j) ∙ sym (words-in forms q u (suc j) b)
 
       under : (eqb t u ≡ false) → wordsIn lowered q t j ≡ wordsIn forms q t j ⊕ (eqb (suc t) u && eqb j 63 && wordsIn forms q u 0)
       under f = set-words forms q (u - 1) lower (omega arith) (omega arith) t j ∙ of (ℕ-discrete (suc t) u)

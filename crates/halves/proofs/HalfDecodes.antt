@@ -4,7 +4,6 @@ use mathlib.Core.Bool.{Bool, true, false, not, _&&_, cond}
 use mathlib.Core.Logic.{⊎-elim}
 use mathlib.Core.List.{List}
 use Prim.Native.Nat.{ℕ, _+_, _*_, _/_, _%_, _^_, _≤_, _<_}
-use native.Mathlib.Nat.{div-one, eq-zero-or-pos}
 use native.Mathlib.Omega.{arith}
 use lib.Dec.{eqb, ltb, leb}
 use lib.ListN.{length, getD}
@@ -23,7 +22,7 @@ use Rattle.machine.specs.Machine.{Form, End, isOpen, decoded}
 use Rattle.machine.specs.Fillings.{filling}
 use Rattle.machine.specs.Report.{none?, shown}
 use Rattle.machine.specs.Lists.{view, formOf, HalfLists, digit, Shows, Past}
-use Rattle.machine.proofs.FormWords.{form-in, form-out, form-first}
+use Rattle.machine.proofs.FormWords.{form-in, form-out, form-first, first-digit}
 use Rattle.halves.specs.Decode.{Given, ownRows, fitting, Decodes}
 use Rattle.turns.specs.declared.RunAnswer.{RunAnswer}
 use Rattle.turns.specs.declared.RunAnswer.the-variants.{Over}
@@ -37,16 +36,6 @@ use Rattle.halves.specs.Starts.{halfIn, Finished, fits?, RowsObey, HalfD
 use Rattle.machine.proofs.Values.{value-off}
 use Rattle.halves.proofs.Finishing.{not-none}
 use Rattle.halves.proofs.HalfRuns.{decoded-is}
-
-digit-constant : (x : ℕ) → x % 2 ≡ digit (bit x 0)
-unfolding bit
-digit-constant x = ⊎-elim (λ (e : x % 2 ≡ 0). e ∙ ap digit (sym (low e))) (λ (p : 0 < x % 2). let e : x % 2 ≡ 1 = omega arith in e ∙ ap digit (sym (high e))) (eq-zero-or-pos (x % 2))
-  where
-    low : x % 2 ≡ 0 → eqb (x / 2 ^ 0 % 2) 1 ≡ false
-    low e = ap (λ (y : ℕ). eqb (y % 2) 1) (div-one x) ∙ ap (λ (y : ℕ). eqb y 1) e
-
-    high : x % 2 ≡ 1 → eqb (x / 2 ^ 0 % 2) 1 ≡ true
-    high e = ap (λ (y : ℕ). eqb (y % 2) 1) (div-one x) ∙ ap (λ (y : ℕ). eqb y 1) e
 
 -- What the turns and the end leave past n is as it was.
 past-stays : (n : ℕ) (marks forms correction work : List ℕ) (mid : Working) (w : Word) (new : HalfLists) → Stays n (record { marks = marks; forms = forms; work = work }) mid
@@ -95,7 +84,7 @@ module _ (n : ℕ) (c : RowLists) (mid : Working) (correction : List ℕ) (new :
   flips-shown q i =
       f .correction .first q i ∙ ap (λ (w : Word). cond (finished? w) (getD (mid .forms) (4 * q) 0 % 2) 0) word
       ∙ cases (finished? (e .word))
-      (λ j. rw j (digit-constant (getD (mid .forms) (4 * q) 0)
+      (λ j. rw j (first-digit (getD (mid .forms) (4 * q) 0)
       ∙ ap digit (sym (form-first (mid .forms) q 0 (omega arith)) ∙ form-at (not-none (e .word) j) q i 0 ∙ sym (value-off (e .state .forms .live) (e .state .forms .form q)))))
       (λ j. rw j)
 

@@ -1,18 +1,19 @@
 -- The words of a form and its bits. Assumes nothing.
-use mathlib.Core.Path.{_≡_, sym, ap₂, _∙_}
+use mathlib.Core.Path.{_≡_, sym, ap, ap₂, _∙_}
 use mathlib.Core.Bool.{false}
 use mathlib.Core.Logic.{⊎-elim}
 use mathlib.Core.List.{List}
 use Prim.Native.Nat.{ℕ, _+_, _*_, _/_, _%_, _≤_, _<_}
 use native.Mathlib.Omega.{arith}
-use lib.Dec.{leb}
+use lib.Dec.{eqb, leb}
 use lib.ListN.{getD}
 use borrow.Author.Tests.{lt-ltb, le-ltb, le-leb, leb-true}
 use Rattle.binary.specs.Words.{bit}
 use Rattle.binary.proofs.Bits.{iff-eq}
-use Rattle.binary.proofs.WordBits.{order, bit-past, bits-none, digits}
+use Rattle.binary.proofs.WordBits.{order, parity, bit-past, bits-none, digits}
+use Rattle.binary.proofs.NumberBits.{bit-first}
 use Rattle.machine.specs.Report.{Shown, outcome}
-use Rattle.machine.specs.Lists.{formOf}
+use Rattle.machine.specs.Lists.{formOf, digit}
 use Rattle.machine.specs.Demands.{ReachLaw}
 use Rattle.machine.specs.OneWord.{OneWordLaw}
 use Rattle.machine.proofs.Demands.{reach}
@@ -36,6 +37,13 @@ module _ (forms : List ℕ) (q : ℕ) where
       let a : 4 * q + k / 64 ≡ 4 * q = omega arith in
       let b : k % 64 ≡ k = omega arith in
       form-in k (omega arith) ∙ ap₂ (λ (x y : ℕ). bit (getD forms x 0) y) a b
+
+-- A rest of 2 as an element, and that of a word: its first bit.
+pub rest-digit : (n : ℕ) → n % 2 ≡ digit (eqb (n % 2) 1)
+rest-digit n = ⊎-elim (λ e. rw e) (λ e. rw e) (parity n)
+
+pub first-digit : (n : ℕ) → n % 2 ≡ digit (bit n 0)
+first-digit n = rest-digit n ∙ ap digit (sym (bit-first n))
 
 -- Where no bit from 64 on is set, the first word is the form.
 pub one-word : OneWordLaw

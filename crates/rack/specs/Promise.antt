@@ -1,10 +1,12 @@
 -- The promises of the library's calls.
---   version      the version of records, lists and structs that the header has too
---   RackPromise  the promise of `rack_step`: that of `stream::step`, in plain numbers
---   RackGives    the promise of `rack_candidate`: that of `candidates::give`, in plain numbers
+--   version       the version of records, lists and structs that the header has too
+--   RackPromise   the promise of `rack_step`: that of `stream::step`, in plain numbers
+--   RackGives     the promise of `rack_candidate`: that of `candidates::give`, in plain numbers
+--   RackGivesLaw  of a half that is reported it is the promise for its own word
 use mathlib.Core.Path.{_≡_}
 use mathlib.Core.List.{List}
 use Prim.Native.Nat.{ℕ}
+use Rattle.machine.specs.declared.HalfReport.{HalfReport}
 use Rattle.records.specs.declared.Reply.{Reply}
 use Rattle.records.specs.declared.CandidateAnswer.{CandidateAnswer}
 use Rattle.records.specs.Lists.{Lent}
@@ -12,7 +14,7 @@ use Rattle.records.specs.Promise.{Promise}
 use Rattle.records.specs.Candidates.{Gives}
 use Rattle.plain.specs.declared.RackState.{RackState}
 use Rattle.plain.specs.declared.RackReply.{RackReply}
-use Rattle.plain.specs.Plain.{stateOf, plainReply, wordOf, plainCandidate}
+use Rattle.plain.specs.Plain.{stateOf, plainReply, wordOf, plainHalf, plainCandidate}
 
 abbrev pub version : ℕ
 version = 6
@@ -28,3 +30,11 @@ pub record RackGives (n word live : ℕ) (marks forms : List ℕ) (number : ℕ)
   pub answer : CandidateAnswer
   pub gives : Gives (record { n = n; word = wordOf word; live = live; marks = marks; forms = forms; number = number }) old new answer
   pub told : r ≡ plainCandidate answer
+
+-- With the number that a reply has for a half's word, `candidates::give` promises it for that word: the claim's candidates are the library's.
+unfoldable pub RackGivesLaw : Type 0
+RackGivesLaw =
+    (h : HalfReport) (n : ℕ) (marks forms : List ℕ) (number : ℕ) (old new : List ℕ) (r : ℕ)
+    → RackGives n (plainHalf h .word) (plainHalf h .live) marks forms number old new r
+    → (a : CandidateAnswer) × Gives (record { n = n; word = h .word; live = h .live; marks = marks; forms = forms; number = number }) old new a
+    × (r ≡ plainCandidate a)

@@ -1,16 +1,31 @@
 -- `candidates::give` meets its contract. Assumes nothing.
-use mathlib.Core.Path.{refl}
+use lib.ListN.{length}
 use borrow.Author.Needs.{needs}
 use Rattle.records.specs.Candidates.{Asked}
-use Rattle.candidates.proofs.Giving.{given-room, given-number, gives-none, gives-one}
+use Rattle.candidates.proofs.Giving.{Tested, given-room, given-number, gives-none, gives-one}
 use Rattle.candidates.proofs.give.Statement.{statement}
 use Rattle.candidates.proofs.give.Tie as tie
 
--- What the call is handed.
+-- What the call is handed, and what its tests are.
+abbrev handed : tie.After-answered → tie.Start
+handed a = a .before .before .before .before .before .before .before
+
 abbrev asked : tie.After-answered → Asked
 asked a =
-    let args = a .before .before .before .before .before .before .before .args in
+    let args = handed a .args in
     record { n = args .n; word = args .word; live = args .live; marks = args .marks .now; forms = args .forms .now; number = args .number }
+
+tested : (a : tie.After-answered) → Tested (asked a) (length (handed a .args .list .now)) (a .answered .result)
+tested a =
+    record {
+      short = a .before .before .before .is-short .result;
+      unfinished = a .before .before .is-unfinished .result;
+      many = a .before .is-many .result;
+      is-short = a .before .before .before .is-short .ensures;
+      counted = a .before .before .is-unfinished .ensures;
+      is-many = a .before .is-many .ensures;
+      answer = a .answered .ensures;
+    }
 
 is-short-requires : tie.Need-is-short-requires
 is-short-requires c κs = search needs
@@ -31,28 +46,21 @@ enum-told-2 : tie.Need-enum-told-2
 enum-told-2 c = search needs
 
 returns : tie.Need-returns
-returns c =
-    let a : tie.After-answered = c .before .before in
-    gives-none (asked a) _ _ (a .before .before .is-unfinished .ensures) _ _ _ (a .before .before .before .is-short .ensures) (a .before .is-many .ensures) (a .answered .ensures) _ refl _ (c .enum-told2 .given .1)
+returns c = gives-none _ (tested (c .before .before)) _ (c .enum-told2 .given .1)
 
 mask-of-requires : tie.Need-mask-of-requires
-mask-of-requires c κs =
-    let a : tie.After-answered = c .before .before in
-    given-number (asked a) _ _ (a .before .before .is-unfinished .ensures) _ _ _ (a .before .before .before .is-short .ensures) (a .before .is-many .ensures) (a .answered .ensures) (c .enum-told .given .1)
+mask-of-requires c κs = given-number (tested (c .before .before)) (c .enum-told .given .1)
 
 write-requires : tie.Need-write-requires
 write-requires c κs =
-    let a : tie.After-answered = c .before .before .before .before in
-    let z = given-room (asked a) _ _ (a .before .before .is-unfinished .ensures) _ _ _ (a .before .before .before .is-short .ensures) (a .before .is-many .ensures) (a .answered .ensures) (c .before .before .enum-told .given .1) in
-    (z .forms, z .list)
+    let z = given-room (tested (c .before .before .before .before)) (c .before .before .enum-told .given .1) in (z .forms, z .list)
 
 same-length : tie.Need-same-length
 same-length c = search needs
 
 returns-2 : tie.Need-returns-2
 returns-2 c =
-    let a : tie.After-answered = c .before .before .before .before .before .before .before in
-    gives-one (asked a) _ _ (a .before .before .is-unfinished .ensures) _ _ _ (a .before .before .before .is-short .ensures) (a .before .is-many .ensures) (a .answered .ensures) _ _ refl (c .before .before .before .before .before .enum-told .given .1) _ (c .before .before .before .before .mask-of .ensures)
+    gives-one _ _ (tested (c .before .before .before .before .before .before .before)) (c .before .before .before .before .before .enum-told .given .1) _ (c .before .before .before .before .mask-of .ensures)
     (c .before .before .write .ensures)
 
 pub give-spec : {M : Type 1} → statement M
