@@ -13,35 +13,32 @@ use Rattle.records.specs.declared.Refusal.{Refusal}
 use Rattle.records.specs.declared.Refusal.the-variants.{Unknown, Length, Size, Place, Clash, Codeless, Range, Twice, Spoiled, Short, Encoded}
 use Rattle.records.specs.Records.{Record}
 use Rattle.records.specs.Lists.{Lists, NoShot, ShotIn, Loads, Holds, Represents}
-use Rattle.records.specs.States.{withoutCode, spoiledOf, endedOf, leftBy}
+use Rattle.records.specs.States.{withoutCode, spoiledOf, endedOf, reportedOf, leftBy}
 
 -- While a code is loading there is no shot to spoil or to end.
-pub loads-any : (s : Sizes) (xs zs : List Row) (st : State) (l : Lists) (spoiled stale : Bool) → Loads s xs zs st l
-    → Loads s xs zs (record { phase = st .phase; sizes = st .sizes; rows = st .rows; clash = st .clash; spoiled = spoiled; stale = stale }) l
-loads-any s xs zs st l spoiled stale h =
-    record {
-      phase = h .phase;
-      sizes = h .sizes;
-      range = h .range;
-      rows = h .rows;
-      some-left = h .some-left;
-      x-few = h .x-few;
-      x-first = h .x-first;
-      good-xs = h .good-xs;
-      good-zs = h .good-zs;
-      flat = h .flat;
-      clash = h .clash;
-    }
+module _ (st : State) (l : Lists) (spoiled stale : Bool) (reports : ℕ) where
+  abbrev changed : State
+  changed = record { phase = st .phase; sizes = st .sizes; rows = st .rows; clash = st .clash; spoiled = spoiled; stale = stale; reports = reports }
 
--- Nothing is in an empty shot.
-pub none-among : NoShot emptyShot
-none-among u = refl
+  loads-any : (s : Sizes) (xs zs : List Row) → Loads s xs zs st l → Loads s xs zs changed l
+  loads-any s xs zs h =
+      record {
+        phase = h .phase;
+        sizes = h .sizes;
+        range = h .range;
+        rows = h .rows;
+        some-left = h .some-left;
+        x-few = h .x-few;
+        x-first = h .x-first;
+        good-xs = h .good-xs;
+        good-zs = h .good-zs;
+        flat = h .flat;
+        clash = h .clash;
+      }
 
-module _ (st : State) (l : Lists) where
-  holds-spoiled : (a : History) → Represents a st l → Represents (spoil a) (spoiledOf st) l
-  holds-spoiled empty h = h
-  holds-spoiled (loading s xs zs) h = loads-any s xs zs st l _ _ h
-  holds-spoiled (ready c s) h =
+  -- With a complete code, any shot that the flags and the list hold.
+  holds-any : (c : Code) (s s′ : Shot) → Holds c s st l → spoiled ≡ s′ .spoiled → ShotIn stale c s′ (l .shot) → Holds c s′ changed l
+  holds-any c s s′ h flag shot =
       record {
         phase = h .phase;
         sizes = h .sizes;
@@ -50,9 +47,20 @@ module _ (st : State) (l : Lists) where
         good-zs = h .good-zs;
         commute = h .commute;
         flat = h .flat;
-        spoiled = refl;
-        shot = shot (st .stale) (h .shot);
+        spoiled = flag;
+        shot = shot;
       }
+
+-- Nothing is in an empty shot.
+pub none-among : NoShot emptyShot
+none-among u = refl
+
+module _ (st : State) (l : Lists) where
+  holds-spoiled : (a : History) → Represents a st l → Represents (spoil a) (spoiledOf st) l
+  holds-spoiled empty h = h
+  holds-spoiled (loading s xs zs) h = loads-any st l true (st .stale) (st .reports) s xs zs h
+  holds-spoiled (ready c s) h =
+      holds-any st l true (st .stale) (st .reports) c s (record { sets = s .sets; spoiled = true }) h refl (shot (st .stale) (h .shot))
     where
       same : (p : Domain) (k : ℕ) → already p (record { sets = s .sets; spoiled = true }) k ≡ already p s k
       same qubits k = refl
@@ -64,19 +72,14 @@ module _ (st : State) (l : Lists) where
 
   pub holds-ended : (a : History) → Represents a st l → Represents (endShot a) (endedOf st) l
   holds-ended empty h = h
-  holds-ended (loading s xs zs) h = loads-any s xs zs st l _ _ h
-  holds-ended (ready c s) h =
-      record {
-        phase = h .phase;
-        sizes = h .sizes;
-        range = h .range;
-        good-xs = h .good-xs;
-        good-zs = h .good-zs;
-        commute = h .commute;
-        flat = h .flat;
-        spoiled = refl;
-        shot = none-among;
-      }
+  holds-ended (loading s xs zs) h = loads-any st l false true (st .reports) s xs zs h
+  holds-ended (ready c s) h = holds-any st l false true (st .reports) c s emptyShot h refl none-among
+
+  -- The number of reports says nothing of code and shot.
+  pub holds-reported : (m : ℕ) (a : History) → Represents a st l → Represents a (reportedOf m st) l
+  holds-reported m empty h = h
+  holds-reported m (loading s xs zs) h = loads-any st l (st .spoiled) (st .stale) m s xs zs h
+  holds-reported m (ready c s) h = holds-any st l (st .spoiled) (st .stale) m c s s h (h .spoiled) (h .shot)
 
   holds-short : (w : Record) (b : Bool) → isReport w ≡ b → (a : History) → Represents a st l → Represents (cond b (endShot a) a) (cond b (endedOf st) st) l
   holds-short w true e a h = holds-ended a h

@@ -1,6 +1,6 @@
 -- The range of sizes, and lists that are long enough. Assumes nothing.
 --   Small      a code's sizes are document 01's
---   LongLists  the lists of code, shot and work have their least lengths; LongHalf: the three lists of a half
+--   LongLists  the lists of code, shot, window and work have their least lengths; LongHalf: the three lists of a half
 use mathlib.Core.Path.{_≡_}
 use mathlib.Core.Bool.{true, false, _&&_, _||_}
 use Prim.Native.Nat.{ℕ, _*_, _≤_}
@@ -36,22 +36,24 @@ small c s st l v = range-out (c .n) (length (c .xs)) (length (c .zs)) (v .range)
 ----------------------------------------------------------------------
 -- Lists that are long enough
 
-pub record LongLists (l : Lists) (size : ℕ) : Type 0 where
+pub record LongLists (l : Lists) (held size : ℕ) : Type 0 where
   pub flat : 16384 ≤ length (l .flat)
   pub ends : 1024 ≤ length (l .ends)
   pub shot : 2048 ≤ length (l .shot)
+  pub window : 2560 ≤ held
   pub work : 10240 ≤ size
 
-pub long-lists : (l : Lists) (work : ℕ) → shortLists l work ≡ false → LongLists l work
+pub long-lists : (l : Lists) (window work : ℕ) → shortLists l window work ≡ false → LongLists l window work
 unfolding shortLists
-long-lists l work e =
+long-lists l window work e =
     let flat = ltb (length (l .flat)) 16384 in
     let ends = ltb (length (l .ends)) 1024 in
     let shot = ltb (length (l .shot)) 2048 in
-    let a = or-false (flat || ends || shot) (ltb work 10240) e in
-    let b = or-false (flat || ends) shot (a .0) in
-    let d = or-false flat ends (b .0) in
-    record { flat = ltb-false _ _ (d .0); ends = ltb-false _ _ (d .1); shot = ltb-false _ _ (b .1); work = ltb-false _ _ (a .1) }
+    let a = or-false (flat || ends || shot || ltb window 2560) (ltb work 10240) e in
+    let b = or-false (flat || ends || shot) (ltb window 2560) (a .0) in
+    let d = or-false (flat || ends) shot (b .0) in
+    let f = or-false flat ends (d .0) in
+    record { flat = ltb-false _ _ (f .0); ends = ltb-false _ _ (f .1); shot = ltb-false _ _ (d .1); window = ltb-false _ _ (b .1); work = ltb-false _ _ (a .1) }
 
 pub record LongHalf (n : ℕ) (l : HalfLists) : Type 0 where
   pub marks : n ≤ length (l .marks)

@@ -4,6 +4,7 @@ pub mod Lowest
 pub mod Table
 pub mod Lists
 pub mod States
+pub mod Window
 pub mod Promise
 pub mod Steps
 pub mod Candidates

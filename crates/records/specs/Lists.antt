@@ -2,7 +2,7 @@
 --   Lists       the lists that hold code and shot: the rows end to end, their ends, and the shot
 --   Six         the six lists of a decode
 --   Lent        all that a call is lent beside the state
---   shortLists  whether a list of code, shot or work is below its least length; shortSix: one of the six lists of a decode
+--   shortLists  whether a list of code, shot, window or work is below its least length; shortSix: one of the six lists of a decode
 --   HeldShot    the shot's list holds this shot
 --   Represents  state and lists hold this code and shot
 use mathlib.Core.Path.{_≡_}
@@ -46,20 +46,22 @@ sixOf x-marks x-forms x-correction z-marks z-forms z-correction = record {
 
 pub record Lent : Type 0 where
   pub lists : Lists
+  pub window : List ℕ
   pub work : List ℕ
   pub six : Six
 
-abbrev pub lentOf : Lists → List ℕ → Six → Lent
-lentOf lists work six = record { lists = lists; work = work; six = six }
+abbrev pub lentOf : Lists → List ℕ → List ℕ → Six → Lent
+lentOf lists window work six = record { lists = lists; window = window; work = work; six = six }
 
 ----------------------------------------------------------------------
 -- Least lengths
 
--- 512 + 512 rows of up to 16 qubits, their ends, 1,024 qubits and as many rows. The first 8,192 elements of the work list are 512 packed rows of 16 words,
+-- 512 + 512 rows of up to 16 qubits, their ends, 1,024 qubits and as many rows; ten numbers for each of 256 reports. The first 8,192 elements of the work list are 512 packed rows of 16 words,
 -- afterwards 8 words for the rows on each of 1,024 qubits; behind them are the dangling rows of a half, how many they are, of each of 512 rows the number
 -- of its open qubits, and the number of rows on each qubit (docs/LISTS.md).
-unfoldable pub shortLists : Lists → ℕ → Bool
-shortLists l work = ltb (length (l .flat)) 16384 || ltb (length (l .ends)) 1024 || ltb (length (l .shot)) 2048 || ltb work 10240
+unfoldable pub shortLists : Lists → ℕ → ℕ → Bool
+shortLists l window work =
+    ltb (length (l .flat)) 16384 || ltb (length (l .ends)) 1024 || ltb (length (l .shot)) 2048 || ltb window 2560 || ltb work 10240
 
 abbrev pub shortHalf : HalfLists → ℕ → Bool
 shortHalf l n = ltb (length (l .marks)) n || ltb (length (l .forms)) (4 * n) || ltb (length (l .correction)) n

@@ -3,7 +3,7 @@
 --   Left        what an answer leaves in the lists of code and shot
 --   Written     what an answer leaves in the six lists; Unworked: in the work list
 --   refusalAt   the refusal that a record meets at a code and shot, with these lists lent; testsAt: the tests of the table
---   Says        the state that a refusal leaves, and a kind 8 that agrees
+--   Says        the state that a refusal leaves, and a kind 8 that agrees, and the number of reports after any answer
 --   Promised    what a record promises; Promise: the promise of `step`, of the record that the bytes are
 use mathlib.Core.Path.{_≡_}
 use mathlib.Core.Bool.{Bool}
@@ -26,6 +26,7 @@ use Rattle.records.specs.Records.{X, Z, Record, unknown, wrong, size, ro
 use Rattle.records.specs.History.{Code, rowCount, sizesOf, Shot, History, empty, loading, ready, half}
 use Rattle.records.specs.Table.{tests, refusal, takes, isReport, afterwards}
 use Rattle.records.specs.States.{leftBy}
+use Rattle.records.specs.Window.{onReports, oneMore, placeOf, Entered}
 use Rattle.records.specs.Lists.{Lists, Six, Lent, shortLists, shortSix, HeldShot, Represents}
 
 ----------------------------------------------------------------------
@@ -133,10 +134,10 @@ Unworked none (encodes k) old new = new ≡ old
 
 -- The refusal that a record meets at this code and shot, with these lists lent.
 abbrev pub refusalAt : Record → History → Lent → Option Refusal
-refusalAt w a l = refusal (shortLists (l .lists) (length (l .work))) (shortSix (l .six)) w a
+refusalAt w a l = refusal (shortLists (l .lists) (length (l .window)) (length (l .work))) (shortSix (l .six)) w a
 
 abbrev pub testsAt : Record → History → Lent → List (Refusal × Bool)
-testsAt w a l = tests (shortLists (l .lists) (length (l .work))) (shortSix (l .six)) w a
+testsAt w a l = tests (shortLists (l .lists) (length (l .window)) (length (l .work))) (shortSix (l .six)) w a
 
 pub record Carried (w : Record) (a : History) (old new : Lent) (r : Reply) : Type 0 where
   pub answer : r .answer ≡ answerOf (refusalAt w a old) w a
@@ -149,17 +150,24 @@ pub record KeptLengths (old new : Lent) : Type 0 where
   pub flat : length (new .lists .flat) ≡ length (old .lists .flat)
   pub ends : length (new .lists .ends) ≡ length (old .lists .ends)
   pub shot : length (new .lists .shot) ≡ length (old .lists .shot)
+  pub window : length (new .window) ≡ length (old .window)
   pub work : length (new .work) ≡ length (old .work)
   pub x : SameLengths (old .six .x) (new .six .x)
   pub z : SameLengths (old .six .z) (new .six .z)
 
--- The state after a refusal: where the table says that nothing changed, it is the state handed in. After a kind 8 that agrees it is that too.
+-- The state after a refusal: where the table says that nothing changed, it is the state handed in. After a kind 8 that agrees it is that too. A decode that
+-- is reported counts as one report more, and an accepted kind 1 begins to count anew.
 pub record Says (w : Record) (st : State) (r : Reply) : Type 0 where
   pub refused : (n : Refusal) → r .answer ≡ Refused n → r .state ≡ leftBy n (isReport w) st
   pub agreed : (k : ℕ) → w ≡ encodes k → r .answer ≡ Taken → r .state ≡ st
+  pub reports : r .state .reports ≡ onReports (λ m. 0) (λ t. oneMore) w (r .answer) (st .reports)
+
+-- A decode that is reported enters, both halves; nothing else writes the window's list, an accepted kind 1 neither.
+abbrev pub WindowLeft : Record → State → List ℕ → List ℕ → Answer → Type 0
+WindowLeft w st old new answer = onReports (λ t. t) (λ r t. Entered (placeOf (st .reports)) r old new) w answer (new ≡ old)
 
 -- For every input the lists keep their lengths, the six lists what is past n, a refusal writes no lent list, and it and a kind 8 that agrees leave the
--- state that the table says; and for whatever code and shot the state and the lists hold, the answer, every lent element and the code and shot afterwards are the
+-- state that the table says, and the window is written as the answer says; and for whatever code and shot the state and the lists hold, the answer, every lent element and the code and shot afterwards are the
 -- table's. Over altered lists or an altered state nothing else is promised.
 pub record Promised (w : Record) (st : State) (old new : Lent) (r : Reply) : Type 0 where
   pub lengths : KeptLengths old new
@@ -167,6 +175,7 @@ pub record Promised (w : Record) (st : State) (old new : Lent) (r : Reply) : Typ
   pub z-past : Past (st .sizes .n) (old .six .z) (new .six .z)
   pub refused : (n : Refusal) → r .answer ≡ Refused n → new ≡ old
   pub says : Says w st r
+  pub window : WindowLeft w st (old .window) (new .window) (r .answer)
   pub carried : (a : History) → Represents a st (old .lists) → Carried w a old new r
 
 abbrev pub Promise : State → List ℕ → Lent → Lent → Reply → Type 0

@@ -5,8 +5,10 @@
 --   spoiledOf    the code kept, an open shot spoiled
 --   endedOf      the code kept, the shot ended
 --   openedOf     the code and the shot kept, which its list holds
+--   reportedOf   so many reports have come
 --   leftBy       what a refusal leaves; saying: the reply that refuses
 use mathlib.Core.Bool.{Bool, true, false, cond}
+use Prim.Native.Nat.{ℕ}
 use Rattle.records.specs.declared.Phase.{Phase}
 use Rattle.records.specs.declared.Phase.the-variants.{Empty, Loading, Ready}
 use Rattle.records.specs.declared.State.{State}
@@ -16,7 +18,7 @@ use Rattle.records.specs.declared.Answer.the-variants.{Refused}
 use Rattle.records.specs.declared.Reply.{Reply}
 
 abbrev pub freshState : State
-freshState = record { phase = Empty; sizes = record { n = 0; x = 0; z = 0 }; rows = 0; clash = false; spoiled = false; stale = false }
+freshState = record { phase = Empty; sizes = record { n = 0; x = 0; z = 0 }; rows = 0; clash = false; spoiled = false; stale = false; reports = 0 }
 
 abbrev pub withoutCode : Phase → Bool
 withoutCode Empty = true
@@ -24,16 +26,19 @@ withoutCode Loading = true
 withoutCode Ready = false
 
 abbrev pub droppedOf : State → State
-droppedOf st = record { phase = Empty; sizes = st .sizes; rows = st .rows; clash = st .clash; spoiled = st .spoiled; stale = st .stale }
+droppedOf st = record { phase = Empty; sizes = st .sizes; rows = st .rows; clash = st .clash; spoiled = st .spoiled; stale = st .stale; reports = st .reports }
 
 abbrev pub spoiledOf : State → State
-spoiledOf st = record { phase = st .phase; sizes = st .sizes; rows = st .rows; clash = st .clash; spoiled = true; stale = st .stale }
+spoiledOf st = record { phase = st .phase; sizes = st .sizes; rows = st .rows; clash = st .clash; spoiled = true; stale = st .stale; reports = st .reports }
 
 abbrev pub endedOf : State → State
-endedOf st = record { phase = st .phase; sizes = st .sizes; rows = st .rows; clash = st .clash; spoiled = false; stale = true }
+endedOf st = record { phase = st .phase; sizes = st .sizes; rows = st .rows; clash = st .clash; spoiled = false; stale = true; reports = st .reports }
 
 abbrev pub openedOf : State → State
-openedOf st = record { phase = st .phase; sizes = st .sizes; rows = st .rows; clash = st .clash; spoiled = st .spoiled; stale = false }
+openedOf st = record { phase = st .phase; sizes = st .sizes; rows = st .rows; clash = st .clash; spoiled = st .spoiled; stale = false; reports = st .reports }
+
+abbrev pub reportedOf : ℕ → State → State
+reportedOf m st = record { phase = st .phase; sizes = st .sizes; rows = st .rows; clash = st .clash; spoiled = st .spoiled; stale = st .stale; reports = m }
 
 -- The table's column "After it"; decode: at a record of kind 5.
 abbrev pub leftBy : Refusal → Bool → State → State

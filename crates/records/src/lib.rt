@@ -2,7 +2,7 @@
 use machine::HalfReport;
 
 // The version of records, lists and structs, one more whenever one of them changes: a header and an archive tell theirs.
-pub const VERSION: u16 = 6;
+pub const VERSION: u16 = 7;
 
 // Why a record is refused (document 01, the table).
 pub enum Refusal {
@@ -49,7 +49,8 @@ pub enum Phase {
 }
 
 // What passes from call to call beside the lists: the sizes announced, the rows taken so far, whether some X and Z rows among them share an
-// odd number of qubits, whether the shot is spoiled, and whether the shot is empty, whatever an earlier one left in its list.
+// odd number of qubits, whether the shot is spoiled, whether the shot is empty, whatever an earlier one left in its list, and how many reports have come since
+// the last accepted kind 1, after 511 again 256.
 pub struct State {
     pub phase: Phase,
     pub sizes: Sizes,
@@ -57,6 +58,7 @@ pub struct State {
     pub clash: bool,
     pub spoiled: bool,
     pub stale: bool,
+    pub reports: u16,
 }
 
 // What a call hands back.
@@ -76,4 +78,33 @@ pub enum CandidateRefusal {
 pub enum CandidateAnswer {
     Refused(CandidateRefusal),
     Given,
+}
+
+// Of the halves of a kind among the last 256 reports (document 02, request h): how many had each word, and the sums of turns, guesses and live.
+pub struct HalfCounts {
+    pub certain: u32,
+    pub unsure: u32,
+    pub none: u32,
+    pub spent: u32,
+    pub stopped: u32,
+    pub turns: u32,
+    pub guesses: u32,
+    pub live: u32,
+}
+
+// Of both kinds.
+pub struct Counts {
+    pub x: HalfCounts,
+    pub z: HalfCounts,
+}
+
+// Why the window is not read.
+pub enum WindowRefusal {
+    Short,
+}
+
+// The answer to a read of the window: a refusal, or the counts.
+pub enum WindowAnswer {
+    Refused(WindowRefusal),
+    Counted(Counts),
 }

@@ -1,9 +1,11 @@
-// What the kinds of record share: the numbers of refusals, and tests of sizes, states and lists.
+// What the kinds of record share: the numbers of refusals and words, and tests of sizes, states and lists.
 ghost use mathlib.Core.Path.{_≡_};
 ghost use lib.ListN.{length};
 ghost use Rattle.records.specs.Table.{refusalNumber, inRange};
 ghost use Rattle.records.specs.Lists.{held, shortLists};
 ghost use Rattle.records.specs.States.{withoutCode};
+ghost use Rattle.records.specs.Window.{wordNumber};
+use machine::Word;
 use records::Phase;
 use records::Refusal;
 use records::State;
@@ -25,6 +27,19 @@ pub fn refusal_number(r: Refusal) -> u8
         Refusal::Spoiled => 11,
         Refusal::Short => 12,
         Refusal::Encoded => 17,
+    }
+}
+
+// A word's number; 0 is no word.
+pub fn word_number(w: Word) -> u16
+    ensures { λ r. ⌜ r ≡ wordNumber w ⌝ }
+{
+    match w {
+        Word::Certain => 1,
+        Word::Unsure => 2,
+        Word::None => 3,
+        Word::Spent => 4,
+        Word::Stopped => 5,
     }
 }
 
@@ -56,9 +71,13 @@ pub fn codeless(st: State) -> bool
     }
 }
 
-// Whether a list of code, shot or work is below its least length.
-pub fn short_lists(flat: &[u16], ends: &[u16], shot: &[u8], work: &[u64]) -> bool
-    ensures { λ r. ⌜ r ≡ shortLists (held (now (flat .entry)) (now (ends .entry)) (now (shot .entry))) (length (now (work .entry))) ⌝ }
+// Whether a list of code, shot, window or work is below its least length.
+pub fn short_lists(flat: &[u16], ends: &[u16], shot: &[u8], window: &[u16], work: &[u64]) -> bool
+    ensures { λ r. ⌜ r ≡ shortLists (held (now (flat .entry)) (now (ends .entry)) (now (shot .entry))) (length (now (window .entry))) (length (now (work .entry))) ⌝ }
 {
-    (flat.len() < 16384) | (ends.len() < 1024) | (shot.len() < 2048) | (work.len() < 10240)
+    (flat.len() < 16384)
+        | (ends.len() < 1024)
+        | (shot.len() < 2048)
+        | (window.len() < 2560)
+        | (work.len() < 10240)
 }

@@ -7,7 +7,7 @@ use records::Sizes;
 use records::State;
 ghost use mathlib.Core.Path.{_≡_};
 ghost use mathlib.Core.Bool.{cond};
-ghost use Rattle.records.specs.States.{freshState, droppedOf, spoiledOf, endedOf, openedOf, leftBy, saying};
+ghost use Rattle.records.specs.States.{freshState, droppedOf, spoiledOf, endedOf, openedOf, reportedOf, leftBy, saying};
 
 // At a fresh start there is no code and no shot.
 pub fn fresh() -> State
@@ -20,6 +20,7 @@ pub fn fresh() -> State
         clash: false,
         spoiled: false,
         stale: false,
+        reports: 0,
     }
 }
 
@@ -36,23 +37,17 @@ fn dropped(st: State) -> State
         clash: st.clash,
         spoiled: st.spoiled,
         stale: st.stale,
+        reports: st.reports,
     }
 }
 
 // The code kept, the shot with these two flags.
-fn with_shot(st: State, spoiled: bool, stale: bool) -> State
-    ensures { λ r. ⌜ r ≡ record { phase = st .phase; sizes = st .sizes; rows = st .rows; clash = st .clash; spoiled = spoiled; stale = stale } ⌝ }
+fn with_shot(mut st: State, spoiled: bool, stale: bool) -> State
+    ensures { λ r. ⌜ r ≡ record { phase = st .phase; sizes = st .sizes; rows = st .rows; clash = st .clash; spoiled = spoiled; stale = stale; reports = st .reports } ⌝ }
 {
-    let phase = st.phase;
-    let sizes = st.sizes;
-    State {
-        phase: phase,
-        sizes: sizes,
-        rows: st.rows,
-        clash: st.clash,
-        spoiled: spoiled,
-        stale: stale,
-    }
+    st.spoiled = spoiled;
+    st.stale = stale;
+    st
 }
 
 // The code kept, an open shot spoiled.
@@ -74,6 +69,14 @@ pub fn opened(st: State) -> State
     ensures { λ r. ⌜ r ≡ openedOf st ⌝ }
 {
     with_shot(st, st.spoiled, false)
+}
+
+// So many reports have come.
+pub fn reported(mut st: State, reports: u16) -> State
+    ensures { λ r. ⌜ r ≡ reportedOf reports st ⌝ }
+{
+    st.reports = reports;
+    st
 }
 
 // What a refusal leaves of code and shot (the table's last column). decode: at a record of kind 5.
