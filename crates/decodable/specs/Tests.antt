@@ -13,7 +13,7 @@ use Rattle.decodable.specs.declared.Test.{Test}
 use Rattle.decodable.specs.declared.Test.the-variants.{Passed, Failed}
 
 unfoldable pub lacking? : Sizes → Lent → Bool
-lacking? z l = shortLists (l .lists) (length (l .work)) || shortSix (l .six) (z .n) || not (inRange (z .n) (z .x) (z .z))
+lacking? z l = shortLists (l .lists) (length (l .window)) (length (l .work)) || shortSix (l .six) (z .n) || not (inRange (z .n) (z .x) (z .z))
 
 unfoldable pub testOf : State → Bool → Test
 testOf st lacking =

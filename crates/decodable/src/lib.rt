@@ -31,6 +31,7 @@ pub fn lacking(
     flat: &[u16],
     ends: &[u16],
     shot: &[u8],
+    window: &[u16],
     work: &[u64],
     x_marks: &[u8],
     x_forms: &[u64],
@@ -39,9 +40,9 @@ pub fn lacking(
     z_forms: &[u64],
     z_correction: &[u8],
 ) -> bool
-    ensures { λ r. ⌜ r ≡ lacking? sizes (lentOf (held (now (flat .entry)) (now (ends .entry)) (now (shot .entry))) (now (work .entry)) (sixOf (now («x_marks» .entry)) (now («x_forms» .entry)) (now («x_correction» .entry)) (now («z_marks» .entry)) (now («z_forms» .entry)) (now («z_correction» .entry)))) ⌝ }
+    ensures { λ r. ⌜ r ≡ lacking? sizes (lentOf (held (now (flat .entry)) (now (ends .entry)) (now (shot .entry))) (now (window .entry)) (now (work .entry)) (sixOf (now («x_marks» .entry)) (now («x_forms» .entry)) (now («x_correction» .entry)) (now («z_marks» .entry)) (now («z_forms» .entry)) (now («z_correction» .entry)))) ⌝ }
 {
-    let lists = short_lists(flat, ends, shot, work);
+    let lists = short_lists(flat, ends, shot, window, work);
     let x = short_half(sizes.n, x_marks, x_forms, x_correction);
     let z = short_half(sizes.n, z_marks, z_forms, z_correction);
     let small = in_range(sizes.n, sizes.x, sizes.z);

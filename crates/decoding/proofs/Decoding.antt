@@ -6,7 +6,7 @@ use mathlib.Core.List.{List}
 use Prim.Native.Nat.{ℕ, _≤_}
 use native.Mathlib.Omega.{arith}
 use lib.ListN.{length}
-use borrow.Author.Tests.{not-false}
+use borrow.Author.Tests.{le-ltb, not-false}
 use Rattle.binary.proofs.Bits.{bit, never}
 use Rattle.machine.specs.Report.{Shown, outcome}
 use Rattle.machine.specs.Lists.{Shows}
@@ -18,20 +18,22 @@ use Rattle.records.specs.declared.Report.{Report}
 use Rattle.records.specs.declared.Answer.the-variants.{Decoded}
 use Rattle.records.specs.declared.Reply.{Reply}
 use Rattle.records.specs.Records.{Pauli, X, Z, Record, report}
-use Rattle.records.specs.History.{Code, sizesOf, Shot, History, ready, half}
+use Rattle.records.specs.History.{Code, sizesOf, Shot, History, ready, emptyShot, half}
 use Rattle.records.specs.Table.{inRange, refusal}
 use Rattle.records.specs.Lists.{Six, Lent, held, lentOf, shortLists, shortHalf, shortSix, Holds, Represents}
-use Rattle.records.specs.States.{withoutCode, endedOf, openedOf, saying}
+use Rattle.records.specs.States.{withoutCode, endedOf, openedOf, reportedOf, saying}
+use Rattle.records.specs.Window.{oneMore, placeOf, Entered}
 use Rattle.records.specs.Promise.{ShotLeft, refusalAt, Carried, Promised}
-use Rattle.records.proofs.HeldStates.{holds-ended, holds-left, no-code, with-code}
+use Rattle.records.proofs.HeldStates.{holds-ended, holds-reported, holds-left, no-code, with-code}
 use Rattle.records.proofs.Answers.{past-same, says-refused, says-nothing, unchanged, carried}
 use Rattle.records.proofs.Range.{InRange, range-out, LongLists, long-lists, LongHalf, long-half}
 use Rattle.readout.specs.Readout.{Begun}
 use Rattle.readout.proofs.Shots.{left-begun, holds-opened}
+use Rattle.window.specs.Entering.{Enters}
 use Rattle.decodable.specs.declared.Test.{Test}
 use Rattle.decodable.specs.declared.Test.the-variants.{Passed, Failed}
 use Rattle.decodable.specs.Tests.{lacking?, testOf}
-use Rattle.decoding.specs.Decoding.{givenOf, shownOf, BothFit, Obeying, Reports}
+use Rattle.decoding.specs.Decoding.{givenOf, shownOf, BothFit, Obeying, Reports, Replies}
 use Rattle.decoding.proofs.Halves.{both-fit, shown-held, obeying}
 
 ----------------------------------------------------------------------
@@ -77,18 +79,18 @@ passed st l lacking test e f g = subst (Passes st) e (passes st lacking (sym f �
 -- Lists that lack nothing.
 pub record Whole (sizes : Sizes) (l : Lent) : Type 0 where
   pub range : InRange (sizes .n) (sizes .x) (sizes .z)
-  pub lists : LongLists (l .lists) (length (l .work))
+  pub lists : LongLists (l .lists) (length (l .window)) (length (l .work))
   pub x : LongHalf (sizes .n) (l .six .x)
   pub z : LongHalf (sizes .n) (l .six .z)
 
 pub whole : (z : Sizes) (l : Lent) → lacking? z l ≡ false → Whole z l
 unfolding lacking? shortSix
 whole z l e =
-    let t = nothing-short (shortLists (l .lists) (length (l .work))) (shortHalf (l .six .x) (z .n) || shortHalf (l .six .z) (z .n)) (inRange (z .n) (z .x) (z .z)) e in
+    let t = nothing-short (shortLists (l .lists) (length (l .window)) (length (l .work))) (shortHalf (l .six .x) (z .n) || shortHalf (l .six .z) (z .n)) (inRange (z .n) (z .x) (z .z)) e in
     let h = neither (shortHalf (l .six .x) (z .n)) (shortHalf (l .six .z) (z .n)) (t .1) in
     record {
       range = range-out (z .n) (z .x) (z .z) (t .2);
-      lists = long-lists (l .lists) (length (l .work)) (t .0);
+      lists = long-lists (l .lists) (length (l .window)) (length (l .work)) (t .0);
       x = long-half (z .n) (l .six .x) (h .0);
       z = long-half (z .n) (l .six .z) (h .1);
     }
@@ -113,6 +115,7 @@ module _ (budget limit : ℕ) (st : State) (l : Lent) (reply : Reply) where
         z-past = past-same (st .sizes .n) (l .six .z);
         refused = λ m i. refl;
         says = says-refused w st reply n (same-reply (saying n true st) reply e);
+        window = rw (same-reply (saying n true st) reply e);
         carried = λ a h. rw (same-reply (saying n true st) reply e)
             (carried w a l l (saying n true st) (some n) (f a h) refl (holds-left st (l .lists) n w a h) refl refl refl);
       }
@@ -128,8 +131,8 @@ module _ (budget limit : ℕ) (st : State) (l : Lent) (reply : Reply) where
       bit (withoutCode (st .phase)) (λ t. refuse Codeless (rw t at e) (λ a h. rw (no-code st (l .lists) a h t)))
       (λ t. bit (st .spoiled) (λ i. refuse-code t Spoiled (rw (t, i) at e) (λ c s v. rw (← (v .spoiled), i)))
       (λ i. bit (lacking? (st .sizes) l) (λ k. refuse-code t Short (rw (t, i, k) at e) (λ c s v.
-      let u : (shortLists (l .lists) (length (l .work)) || shortSix (l .six) (c .n)) ≡ true
-      = rw (v .sizes) at (short-of (shortLists (l .lists) (length (l .work))) (shortSix (l .six) (st .sizes .n)) (inRange (st .sizes .n) (st .sizes .x) (st .sizes .z)) k (rw (v .sizes) (v .range))) in
+      let u : (shortLists (l .lists) (length (l .window)) (length (l .work)) || shortSix (l .six) (c .n)) ≡ true
+      = rw (v .sizes) at (short-of (shortLists (l .lists) (length (l .window)) (length (l .work))) (shortSix (l .six) (st .sizes .n)) (inRange (st .sizes .n) (st .sizes .x) (st .sizes .z)) k (rw (v .sizes) (v .range))) in
       rw (← (v .spoiled), i, u)))
       (λ k. let f : Passed ≡ Failed reply = rw (t, i, k) at e in let z : _≡_ {A = ℕ} 0 1 = cc in absurd (omega arith))))
 
@@ -140,29 +143,29 @@ module _ (budget limit : ℕ) (st : State) (l : Lent) (reply : Reply) where
 ----------------------------------------------------------------------
 -- Carried out
 
-module _ (budget limit : ℕ) (st : State) (flat ends shot shot′ work : List ℕ) (six : Six)
-    (p : Passes st (lacking? (st .sizes) (lentOf (held flat ends shot) work six))) (b : Begun st shot shot′) where
+module _ (budget limit : ℕ) (st : State) (flat ends shot shot′ window work : List ℕ) (six : Six)
+    (p : Passes st (lacking? (st .sizes) (lentOf (held flat ends shot) window work six))) (b : Begun st shot shot′) where
   abbrev old : Lent
-  old = lentOf (held flat ends shot) work six
+  old = lentOf (held flat ends shot) window work six
 
   pub halves-fit : (1024 ≤ length shot′) × BothFit (st .sizes) budget limit (held flat ends shot′) (length work) six
   halves-fit =
       let o = whole (st .sizes) old (p .whole) in (
         omega (arith, o .lists .shot, b .long),
-        both-fit (st .sizes) budget limit (held flat ends shot′) (length work) six (o .range)
-            (record { flat = o .lists .flat; ends = o .lists .ends; shot = omega (arith, o .lists .shot, b .long); work = o .lists .work }) (o .x) (o .z),
+        both-fit (st .sizes) budget limit (held flat ends shot′) (length window) (length work) six (o .range)
+            (record { flat = o .lists .flat; ends = o .lists .ends; shot = omega (arith, o .lists .shot, b .long); window = o .lists .window; work = o .lists .work }) (o .x) (o .z),
       )
 
   no-refusal : (c : Code) (s : Shot) → Holds c s st (old .lists) → refusalAt (report budget limit) (ready c s) old ≡ none
   unfolding refusal lacking?
   no-refusal c s v =
-      let t = nothing-short (shortLists (old .lists) (length work)) (shortSix six (st .sizes .n)) (inRange (st .sizes .n) (st .sizes .x) (st .sizes .z)) (p .whole) in
+      let t = nothing-short (shortLists (old .lists) (length window) (length work)) (shortSix six (st .sizes .n)) (inRange (st .sizes .n) (st .sizes .x) (st .sizes .z)) (p .whole) in
       let x : shortSix six (c .n) ≡ false = rw (v .sizes) at (t .1) in
       rw (← (v .spoiled), p .clean, t .0, x)
 
-  module _ (work′ : List ℕ) (six′ : Six) (rep : Report) (d : Reports (st .sizes) budget limit (held flat ends shot′) work work′ six six′ rep) where
+  module _ (window′ work′ : List ℕ) (six′ : Six) (rep : Report) (d : Reports (st .sizes) budget limit (held flat ends shot′) work work′ six six′ rep) where
     abbrev new : Lent
-    new = lentOf (held flat ends shot′) work′ six′
+    new = lentOf (held flat ends shot′) window′ work′ six′
 
     -- Of a complete code.
     module _ (c : Code) (s : Shot) (v : Holds c s st (old .lists)) where
@@ -183,20 +186,27 @@ module _ (budget limit : ℕ) (st : State) (flat ends shot shot′ work : List �
             subst (λ (u : Shown). Shows (c .n) u (six .z) (six′ .z)) (same Z) (t .2),
           )
 
-      decoded : Carried (report budget limit) (ready c s) old new (record { state = endedOf st; answer = Decoded rep })
-      decoded =
-          carried (report budget limit) (ready c s) old new (record { state = endedOf st; answer = Decoded rep }) none (no-refusal c s v)
+      decoded : (m : ℕ) → Carried (report budget limit) (ready c s) old new (record { state = reportedOf m (endedOf st); answer = Decoded rep })
+      decoded m =
+          carried (report budget limit) (ready c s) old new (record { state = reportedOf m (endedOf st); answer = Decoded rep }) none (no-refusal c s v)
           (ap Decoded (done .0))
-          (holds-ended (openedOf st) (new .lists) (ready c s) (holds-opened c s s st flat ends shot shot′ v refl (left .held)))
+          (holds-reported (endedOf st) (new .lists) m (ready c emptyShot)
+          (holds-ended (openedOf st) (new .lists) (ready c s) (holds-opened c s s st flat ends shot shot′ v refl (left .held))))
           left (done .1, done .2) (d .work-long)
 
-    pub decode-done : (r : Reply) → r ≡ record { state = endedOf st; answer = Decoded rep } → Promised (report budget limit) st old new r
+    -- The window was long enough.
+    entered : (m : ℕ) → Enters (st .reports) rep window window′ m → Entered (placeOf (st .reports)) rep window window′ × (m ≡ oneMore (st .reports))
+    entered m e = rw (le-ltb (length window) 2560 (whole (st .sizes) old (p .whole) .lists .window)) at e
+
+    pub decode-done : (r : Reply) → Replies st rep window window′ r → Promised (report budget limit) st old new r
     decode-done r f =
+        let e = entered (f .0) (f .1) in
         record {
-          lengths = record { flat = refl; ends = refl; shot = b .long; work = d .work-long; x = d .x-long; z = d .z-long };
+          lengths = record { flat = refl; ends = refl; shot = b .long; window = e .0 .long; work = d .work-long; x = d .x-long; z = d .z-long };
           x-past = d .x-past;
           z-past = d .z-past;
-          refused = λ n e. let z : _≡_ {A = ℕ} 0 1 = cc in absurd (omega arith);
-          says = says-nothing (report budget limit) st r refl (λ n e. let z : _≡_ {A = ℕ} 0 1 = cc in omega arith);
-          carried = with-code st (old .lists) (λ a. Carried (report budget limit) a old new r) (p .coded) (λ c s v. rw f (decoded c s v));
+          refused = λ n i. let j = f .2 in let z : _≡_ {A = ℕ} 0 1 = cc in absurd (omega arith);
+          says = says-nothing (report budget limit) st r refl (λ n i. let j = f .2 in let z : _≡_ {A = ℕ} 0 1 = cc in omega arith) (rw (f .2) (e .1));
+          window = rw (f .2) (e .0);
+          carried = with-code st (old .lists) (λ a. Carried (report budget limit) a old new r) (p .coded) (λ c s v. rw (f .2) (decoded c s v (f .0)));
         }

@@ -1,5 +1,5 @@
 -- The two halves of a decode: what the lists hold of them, and what their decodes come to. Assumes nothing.
-use mathlib.Core.Path.{_≡_, refl, sym, ap, _∙_, subst, fun-ext}
+use mathlib.Core.Path.{_≡_, sym, ap, _∙_, subst, fun-ext}
 use mathlib.Core.Bool.{Bool, true, _&&_}
 use mathlib.Core.List.{List, _++_}
 use Prim.Native.Nat.{ℕ, _+_, _-_, _≤_}
@@ -86,9 +86,9 @@ readings-long : (shot : List ℕ) → 2048 ≤ length shot → 1024 ≤ length (
 unfolding readingsOf
 readings-long shot h = omega (arith, length-drop 1024 shot)
 
-pub both-fit : (z : Sizes) (budget limit : ℕ) (l : Lists) (work : ℕ) (six : Six) → InRange (z .n) (z .x) (z .z) → LongLists l work
+pub both-fit : (z : Sizes) (budget limit : ℕ) (l : Lists) (window work : ℕ) (six : Six) → InRange (z .n) (z .x) (z .z) → LongLists l window work
     → LongHalf (z .n) (six .x) → LongHalf (z .n) (six .z) → BothFit z budget limit l work six
-both-fit z budget limit l work six m o x-long z-long =
+both-fit z budget limit l window work six m o x-long z-long =
     let rows = readings-long (l .shot) (o .shot) in
     let on : z .n ≤ length (l .shot) = omega (arith, m .qubits, o .shot) in
     record {

@@ -3,6 +3,7 @@
 --   givenOf     what a half is decoded from: X errors from the Z rows, Z errors from the X rows
 --   BothFit     both halves are decoded
 --   Reports     what the decode of both halves does
+--   Replies     the reply to it, and what it leaves in the window
 use mathlib.Core.Path.{_≡_}
 use mathlib.Core.Bool.{true}
 use mathlib.Core.List.{List}
@@ -14,9 +15,14 @@ use Rattle.halves.specs.Lists.{halfOf}
 use Rattle.halves.specs.Starts.{RowsObey}
 use Rattle.halves.specs.Decode.{Given, ownRows, fitting}
 use Rattle.records.specs.declared.Sizes.{Sizes}
+use Rattle.records.specs.declared.State.{State}
 use Rattle.records.specs.declared.Report.{Report}
+use Rattle.records.specs.declared.Answer.the-variants.{Decoded}
+use Rattle.records.specs.declared.Reply.{Reply}
 use Rattle.records.specs.Records.{Pauli, X, Z}
 use Rattle.records.specs.Lists.{Lists, Six}
+use Rattle.records.specs.States.{endedOf, reportedOf}
+use Rattle.window.specs.Entering.{Enters}
 
 ----------------------------------------------------------------------
 -- Both halves
@@ -78,3 +84,7 @@ pub record Reports (z : Sizes) (budget limit : ℕ) (l : Lists) (work work′ : 
       → (r ≡ record { x = shownOf (givenOf X z l budget limit) .report; z = shownOf (givenOf Z z l budget limit) .report })
       × Shows (z .n) (shownOf (givenOf X z l budget limit)) (old .x) (new .x)
       × Shows (z .n) (shownOf (givenOf Z z l budget limit)) (old .z) (new .z)
+
+-- m: the number of reports with this one.
+abbrev pub Replies : State → Report → List ℕ → List ℕ → Reply → Type 0
+Replies st d old new r = (m : ℕ) × Enters (st .reports) d old new m × (r ≡ record { state = reportedOf m (endedOf st); answer = Decoded d })

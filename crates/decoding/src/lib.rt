@@ -5,7 +5,7 @@ ghost use lib.ListN.{length};
 ghost use Rattle.records.specs.Records.{report};
 ghost use Rattle.records.specs.Lists.{held, sixOf, lentOf};
 ghost use Rattle.records.specs.Promise.{Promised};
-ghost use Rattle.decoding.specs.Decoding.{readingsOf, BothFit, Reports};
+ghost use Rattle.decoding.specs.Decoding.{readingsOf, BothFit, Reports, Replies};
 use code::Row;
 use code::Rows;
 use decodable::Test;
@@ -21,11 +21,8 @@ use records::Reply;
 use records::Report;
 use records::Sizes;
 use records::State;
-use rules::codeless;
-use rules::in_range;
-use rules::short_lists;
 use states::ended;
-use states::refused;
+use states::reported;
 
 // The part of the shot's list that has the rows' elements.
 fn readings<'a>(shot: &'a [u8]) -> &'a [u8]
@@ -123,6 +120,18 @@ fn decode_halves(
     }
 }
 
+// The reply to a decode: the shot is ended, and the report enters the window.
+fn report_of(st: State, decoded: Report, window: &mut [u16]) -> Reply
+    ensures { λ r. ⌜ Replies st decoded (now (window .entry)) (now (window .exit)) r ⌝ }
+{
+    let reports = window::enter(st.reports, decoded, window);
+    let after = ended(st);
+    Reply {
+        state: reported(after, reports),
+        answer: Answer::Decoded(decoded),
+    }
+}
+
 // The decode of a shot, which ends it.
 pub fn decode(
     st: State,
@@ -131,6 +140,7 @@ pub fn decode(
     flat: &[u16],
     ends: &[u16],
     shot: &mut [u8],
+    window: &mut [u16],
     work: &mut [u64],
     x_marks: &mut [u8],
     x_forms: &mut [u64],
@@ -139,7 +149,7 @@ pub fn decode(
     z_forms: &mut [u64],
     z_correction: &mut [u8],
 ) -> Reply
-    ensures { λ r. ⌜ Promised (report budget limit) st (lentOf (held (now (flat .entry)) (now (ends .entry)) (now (shot .entry))) (now (work .entry)) (sixOf (now («x_marks» .entry)) (now («x_forms» .entry)) (now («x_correction» .entry)) (now («z_marks» .entry)) (now («z_forms» .entry)) (now («z_correction» .entry)))) (lentOf (held (now (flat .entry)) (now (ends .entry)) (now (shot .exit))) (now (work .exit)) (sixOf (now («x_marks» .exit)) (now («x_forms» .exit)) (now («x_correction» .exit)) (now («z_marks» .exit)) (now («z_forms» .exit)) (now («z_correction» .exit)))) r ⌝ }
+    ensures { λ r. ⌜ Promised (report budget limit) st (lentOf (held (now (flat .entry)) (now (ends .entry)) (now (shot .entry))) (now (window .entry)) (now (work .entry)) (sixOf (now («x_marks» .entry)) (now («x_forms» .entry)) (now («x_correction» .entry)) (now («z_marks» .entry)) (now («z_forms» .entry)) (now («z_correction» .entry)))) (lentOf (held (now (flat .entry)) (now (ends .entry)) (now (shot .exit))) (now (window .exit)) (now (work .exit)) (sixOf (now («x_marks» .exit)) (now («x_forms» .exit)) (now («x_correction» .exit)) (now («z_marks» .exit)) (now («z_forms» .exit)) (now («z_correction» .exit)))) r ⌝ }
 {
     let sizes = st.sizes;
     let short = lacking(
@@ -147,6 +157,7 @@ pub fn decode(
         flat,
         ends,
         shot,
+        window,
         work,
         x_marks,
         x_forms,
@@ -175,8 +186,5 @@ pub fn decode(
         z_forms,
         z_correction,
     );
-    Reply {
-        state: ended(st),
-        answer: Answer::Decoded(decoded),
-    }
+    report_of(st, decoded, window)
 }

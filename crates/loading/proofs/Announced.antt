@@ -3,6 +3,7 @@ use mathlib.Core.Path.{_≡_, refl, sym, ap, _∙_}
 use mathlib.Core.Bool.{Bool, true, false}
 use mathlib.Core.Option.{none, some}
 use Prim.Native.Nat.{ℕ}
+use Rattle.records.specs.declared.Sizes.{Sizes}
 use Rattle.records.specs.declared.State.{State}
 use Rattle.records.specs.declared.Refusal.{Refusal}
 use Rattle.records.specs.declared.Refusal.the-variants.{Size, Short}
@@ -14,9 +15,12 @@ use Rattle.records.specs.Steps.{Does}
 use Rattle.loading.specs.Loading.{progressOf, SizesTaken}
 use Rattle.records.specs.States.{saying}
 use Rattle.records.proofs.Answers.{answered, answered-refused, says-refused, says-nothing}
-use Rattle.loading.proofs.Grown.{not-refused, grown-none, grown-answer, grown-holds}
+use Rattle.loading.proofs.Grown.{not-refused, progress-reports, progress-empties, grown-none, grown-answer, grown-holds}
 
 module _ (st : State) (n x z : ℕ) (short : Bool) (r : Reply) where
+  abbrev s₀ : Sizes
+  s₀ = record { n = n; x = x; z = z }
+
   -- Refused, by its number in the table.
   refuse : (m : Refusal) → r ≡ saying m false st → ((six : ℕ → Bool) (a : History) → refusal short six (size n x z) a ≡ some m) → SizesTaken n x z st short r
   unfolding Does
@@ -34,12 +38,13 @@ module _ (st : State) (n x z : ℕ) (short : Bool) (r : Reply) where
   unfolding refusal
   size-short e s is = refuse Short is (λ six a. rw (e, s))
 
-  pub size-taken : inRange n x z ≡ true → short ≡ false → r ≡ progressOf (record { n = n; x = x; z = z }) 0 false → SizesTaken n x z st short r
+  pub size-taken : inRange n x z ≡ true → short ≡ false → r ≡ progressOf (record { n = n; x = x; z = z }) 0 false 0 → SizesTaken n x z st short r
   unfolding Does refusal
   size-taken e s p =
       record {
-        says = says-nothing (size n x z) st r refl (λ m i. not-refused (record { n = n; x = x; z = z }) 0 false m (sym (ap (λ (y : Reply). y .answer) p) ∙ i));
+        says = says-nothing (size n x z) st r refl (λ m i. not-refused s₀ 0 false 0 m (sym (ap (λ (y : Reply). y .answer) p) ∙ i))
+            (rw p (progress-reports s₀ 0 false 0 ∙ sym (progress-empties s₀ 0 false 0 n x z (st .reports))));
         does = λ l six a h.
-            let begun = grown-none (record { n = n; x = x; z = z }) l e in
-            answered short six (size n x z) a l l r none (rw (e, s)) (grown-answer _ _ _ _ _ l begun r (λ t. refl) p) (grown-holds _ _ _ _ _ l begun r (λ t. refl) p) refl;
+            let begun = grown-none s₀ l e in
+            answered short six (size n x z) a l l r none (rw (e, s)) (grown-answer _ _ _ _ _ l begun r 0 (λ t. refl) p) (grown-holds _ _ _ _ _ l begun r 0 (λ t. refl) p) refl;
       }

@@ -26,10 +26,11 @@ use Rattle.records.specs.declared.State.{State}
 use Rattle.records.specs.declared.Refusal.{Refusal}
 use Rattle.records.specs.declared.Answer.the-variants.{Refused, Taken, Complete}
 use Rattle.records.specs.declared.Reply.{Reply}
-use Rattle.records.specs.Records.{Pauli, X, Z}
+use Rattle.records.specs.Records.{Pauli, X, Z, size}
 use Rattle.records.specs.History.{Code, loading, ready, emptyShot, loaded, addRow}
 use Rattle.records.specs.Table.{inRange, awaited}
 use Rattle.records.specs.Lists.{Lists, held, GoodRows, Loads, Holds, Represents}
+use Rattle.records.specs.Window.{onReports, oneMore}
 use Rattle.records.specs.Promise.{completed}
 use Rattle.loading.specs.Loading.{clashing, countedOf, progressOf}
 use Rattle.records.proofs.HeldStates.{none-among}
@@ -82,7 +83,7 @@ module _ (s : Sizes) (xs zs : List Row) (rows : ℕ) (clash : Bool) (l : Lists) 
   is-ready : s .x + s .z ≤ rows → loaded s xs zs ≡ ready code emptyShot
   is-ready h = rw (eq-eqb (length xs + length zs) (s .x + s .z) (omega (arith, g .count, g .few)))
 
-  module _ (r : Reply) (commutes : (ltb rows (s .x + s .z) ≡ false) → clash ≡ false) (e : r ≡ progressOf s rows clash) where
+  module _ (r : Reply) (reports : ℕ) (commutes : (ltb rows (s .x + s .z) ≡ false) → clash ≡ false) (e : r ≡ progressOf s rows clash reports) where
     pub grown-answer : r .answer ≡ completed (loaded s xs zs)
     grown-answer =
         bit (ltb rows (s .x + s .z)) (λ t. rw (e, t, is-loading (ltb-true rows (s .x + s .z) t)))
@@ -93,7 +94,7 @@ module _ (s : Sizes) (xs zs : List Row) (rows : ℕ) (clash : Bool) (l : Lists) 
         bit (ltb rows (s .x + s .z)) (λ t. rw (e, t, is-loading (ltb-true rows (s .x + s .z) t)) (loads (ltb-true rows (s .x + s .z) t)))
         (λ t. rw (e, t, is-ready (ltb-false rows (s .x + s .z) t)) (holds (ltb-false rows (s .x + s .z) t) (commutes t)))
       where
-        loads : rows < s .x + s .z → Loads s xs zs (countedOf Loading s rows clash) l
+        loads : rows < s .x + s .z → Loads s xs zs (countedOf Loading s rows clash reports) l
         loads h =
             record {
               phase = refl;
@@ -109,7 +110,7 @@ module _ (s : Sizes) (xs zs : List Row) (rows : ℕ) (clash : Bool) (l : Lists) 
               clash = g .flag;
             }
 
-        holds : s .x + s .z ≤ rows → clash ≡ false → Holds code emptyShot (countedOf Ready s rows clash) l
+        holds : s .x + s .z ≤ rows → clash ≡ false → Holds code emptyShot (countedOf Ready s rows clash reports) l
         holds h q =
             record {
               phase = refl;
@@ -219,12 +220,20 @@ module _ (st : State) (xs zs : List Row) (flat ends shot : List ℕ) (h : Loads 
         }
 
 ----------------------------------------------------------------------
--- Not refused
+-- Not refused, and the number of reports
 
 -- Sizes or a row that are taken are not refused.
 one-of : (b : Bool) (x y : Reply) (n : Refusal) (s : Sizes) → x .answer ≡ Taken → y .answer ≡ Complete s → cond b x y .answer ≡ Refused n → ⊥
 one-of true x y n s e f i = let z : _≡_ {A = ℕ} 0 1 = cc in omega arith
 one-of false x y n s e f i = let z : _≡_ {A = ℕ} 0 1 = cc in omega arith
 
-pub not-refused : (s : Sizes) (rows : ℕ) (clash : Bool) (n : Refusal) → progressOf s rows clash .answer ≡ Refused n → ⊥
-not-refused s rows clash n = one-of (ltb rows (s .x + s .z)) _ _ n s refl refl
+module _ (s : Sizes) (rows : ℕ) (clash : Bool) (reports : ℕ) where
+  pub not-refused : (n : Refusal) → progressOf s rows clash reports .answer ≡ Refused n → ⊥
+  not-refused n = one-of (ltb rows (s .x + s .z)) _ _ n s refl refl
+
+  pub progress-reports : progressOf s rows clash reports .state .reports ≡ reports
+  progress-reports = bit (ltb rows (s .x + s .z)) (λ t. rw t) (λ t. rw t)
+
+  -- Sizes that are taken empty the window.
+  pub progress-empties : (n x z m : ℕ) → onReports (λ m. 0) (λ t. oneMore) (size n x z) (progressOf s rows clash reports .answer) m ≡ 0
+  progress-empties n x z m = bit (ltb rows (s .x + s .z)) (λ t. rw t) (λ t. rw t)

@@ -1,6 +1,6 @@
 -- What each way through `take_row` leaves, for rows of either kind. Assumes nothing.
 use mathlib.Core.Path.{_≡_, refl, sym, ap, _∙_, subst}
-use mathlib.Core.Bool.{Bool, true, false, _&&_, cond}
+use mathlib.Core.Bool.{Bool, true, false, _&&_}
 use mathlib.Core.Logic.{_⊎_, inl, inr}
 use mathlib.Core.Option.{none}
 use mathlib.Core.List.{List, [], _∷_}
@@ -29,7 +29,7 @@ use Rattle.loading.specs.Loading.{loads?, inTurn, awaits?, clashing, pro
 use Rattle.records.specs.States.{saying}
 use Rattle.records.proofs.Answers.{answered, answered-refused, says-refused, says-nothing}
 use Rattle.records.proofs.Range.{InRange, range-out}
-use Rattle.loading.proofs.Grown.{not-refused, Grown, xsWith, zsWith, added, clash-told, row-fits, grown-row, grown-answer, grown-holds}
+use Rattle.loading.proofs.Grown.{not-refused, progress-reports, Grown, xsWith, zsWith, added, clash-told, row-fits, grown-row, grown-answer, grown-holds}
 
 ----------------------------------------------------------------------
 -- The row awaited
@@ -176,7 +176,7 @@ module _ (p : Pauli) (st : State) (flat ends shot : List ℕ) (q : Row) (six : �
         (λ xs zs h w. answered-refused false six (row p q) (loading s xs zs) l Clash st r (rw (w, asc, clashes-told xs zs h w, ← told, k)) h is)
 
     pub row-added : (flat′ ends′ : List ℕ) (done : Bool) (r : Reply) → length q ≤ 16 → 16384 ≤ length flat → 1024 ≤ length ends
-        → (eqb (st .rows + 1) (s .x + s .z) && clash) ≡ false → Pushed flat ends (st .rows) q done flat′ ends′ → r ≡ progressOf s (st .rows + 1) clash
+        → (eqb (st .rows + 1) (s .x + s .z) && clash) ≡ false → Pushed flat ends (st .rows) q done flat′ ends′ → r ≡ progressOf s (st .rows + 1) clash (st .reports)
         → Does false six (row p q) st l (held flat′ ends′ shot) r
     unfolding Does refusal
     row-added flat′ ends′ done r w long wide k push e =
@@ -192,8 +192,8 @@ module _ (p : Pauli) (st : State) (flat ends shot : List ℕ) (q : Row) (six : �
             let g = subst (λ (b : Bool). Grown s xs′ zs′ (st .rows + 1) b new) (sym told) (grown-row st xs zs flat ends shot h q flat′ ends′ w asc done push d p a) in
             let commutes : ltb (st .rows + 1) (s .x + s .z) ≡ false → clash ≡ false = λ b. rw (last b) at k in
             answered false six (row p q) (loading s xs zs) l new r none (rw (a, asc, clashes-told xs zs h a, ← told, k))
-            (rw (added p q s xs zs) (grown-answer s xs′ zs′ (st .rows + 1) clash new g r commutes e))
-            (rw (added p q s xs zs) (grown-holds s xs′ zs′ (st .rows + 1) clash new g r commutes e))
+            (rw (added p q s xs zs) (grown-answer s xs′ zs′ (st .rows + 1) clash new g r (st .reports) commutes e))
+            (rw (added p q s xs zs) (grown-holds s xs′ zs′ (st .rows + 1) clash new g r (st .reports) commutes e))
             (record { flat = rw (d, h .rows) at (push .row); ends = rw (d, h .rows) at (push .end); shot = refl })
           where
             xs′ : List Row
@@ -236,16 +236,16 @@ module _ (p : Pauli) (st : State) (flat ends : List ℕ) (q : Row) (r : Reply) w
         }
 
     pub add-taken : (flat′ ends′ : List ℕ) (done : Bool) → k ≡ false → Pushed flat ends (st .rows) q done flat′ ends′
-        → r ≡ progressOf (st .sizes) (st .rows + 1) clash → RowTaken p st flat ends q false r flat′ ends′
+        → r ≡ progressOf (st .sizes) (st .rows + 1) clash (st .reports) → RowTaken p st flat ends q false r flat′ ends′
     add-taken flat′ ends′ done e push is =
         let long = push-lengths flat ends flat′ ends′ (st .rows) q done push in
         record {
           flat-long = long .0;
           ends-long = long .1;
           refused = λ n i. absurd (taken n i);
-          says = says-nothing (row p q) st r refl taken;
+          says = says-nothing (row p q) st r refl taken (ap (λ (x : Reply). x .state .reports) is ∙ progress-reports (st .sizes) (st .rows + 1) clash (st .reports));
           does = λ six shot w wide. row-added p st flat ends shot q six t asc clash told flat′ ends′ done r w (wide refl .0) (wide refl .1) (sym last ∙ e) push is;
         }
       where
         taken : (n : Refusal) → r .answer ≡ Refused n → ⊥
-        taken n i = not-refused (st .sizes) (st .rows + 1) clash n (sym (ap (λ (x : Reply). x .answer) is) ∙ i)
+        taken n i = not-refused (st .sizes) (st .rows + 1) clash (st .reports) n (sym (ap (λ (x : Reply). x .answer) is) ∙ i)

@@ -44,14 +44,14 @@ clashing X clash flat ends x qubits = clash
 clashing Z clash flat ends x qubits = clash || not (evenWith? (rowsBetween flat ends 0 x) qubits)
 
 -- The state with so many rows in.
-abbrev pub countedOf : Phase → Sizes → ℕ → Bool → State
-countedOf phase s rows clash = record { phase = phase; sizes = s; rows = rows; clash = clash; spoiled = false; stale = true }
+abbrev pub countedOf : Phase → Sizes → ℕ → Bool → ℕ → State
+countedOf phase s rows clash reports = record { phase = phase; sizes = s; rows = rows; clash = clash; spoiled = false; stale = true; reports = reports }
 
 -- More rows are awaited, or the code is complete.
-abbrev pub progressOf : Sizes → ℕ → Bool → Reply
-progressOf s rows clash =
-    cond (ltb rows (s .x + s .z)) (record { state = countedOf Loading s rows clash; answer = Taken })
-    (record { state = countedOf Ready s rows clash; answer = Complete s })
+abbrev pub progressOf : Sizes → ℕ → Bool → ℕ → Reply
+progressOf s rows clash reports =
+    cond (ltb rows (s .x + s .z)) (record { state = countedOf Loading s rows clash reports; answer = Taken })
+    (record { state = countedOf Ready s rows clash reports; answer = Complete s })
 
 -- Sizes write no list.
 pub record SizesTaken (n x z : ℕ) (st : State) (short : Bool) (r : Reply) : Type 0 where

@@ -16,9 +16,9 @@ use rules::in_range;
 use states::refused;
 
 // With so many rows in: more are awaited, or the code is complete and has an empty shot.
-fn progress(sizes: Sizes, rows: u16, clash: bool) -> Reply
+fn progress(sizes: Sizes, rows: u16, clash: bool, reports: u16) -> Reply
     requires { ⌜ sizes .x + sizes .z < 65536 ⌝ }
-    ensures { λ r. ⌜ r ≡ progressOf sizes rows clash ⌝ }
+    ensures { λ r. ⌜ r ≡ progressOf sizes rows clash reports ⌝ }
 {
     if rows < sizes.x + sizes.z {
         return Reply {
@@ -29,6 +29,7 @@ fn progress(sizes: Sizes, rows: u16, clash: bool) -> Reply
                 clash: clash,
                 spoiled: false,
                 stale: true,
+                reports: reports,
             },
             answer: Answer::Taken,
         };
@@ -41,12 +42,13 @@ fn progress(sizes: Sizes, rows: u16, clash: bool) -> Reply
             clash: clash,
             spoiled: false,
             stale: true,
+            reports: reports,
         },
         answer: Answer::Complete(sizes),
     }
 }
 
-// Sizes drop any code and shot and start loading.
+// Sizes drop any code and shot, empty the window and start loading.
 pub fn take_sizes(st: State, n: u16, x: u16, z: u16, short: bool) -> Reply
     ensures { λ r. ⌜ SizesTaken n x z st short r ⌝ }
 {
@@ -56,7 +58,7 @@ pub fn take_sizes(st: State, n: u16, x: u16, z: u16, short: bool) -> Reply
     if short {
         return refused(st, Refusal::Short, false);
     }
-    progress(Sizes { n: n, x: x, z: z }, 0, false)
+    progress(Sizes { n: n, x: x, z: z }, 0, false, 0)
 }
 
 // Whether a code is loading.
@@ -125,7 +127,7 @@ fn add_row(st: State, xrow: bool, flat: &mut [u16], ends: &mut [u16], qubits: &[
     }
     // There is room, but in an altered state or list.
     code::push_row(flat, ends, Row(st.rows), qubits);
-    progress(sizes, rows, clash)
+    progress(sizes, rows, clash, st.reports)
 }
 
 // A row, taken up in its turn: an X row, or else a Z row.

@@ -15,7 +15,7 @@ use Rattle.records.specs.declared.Sizes.{Sizes}
 use Rattle.records.specs.declared.State.{State}
 use Rattle.records.specs.declared.Refusal.{Refusal}
 use Rattle.records.specs.declared.Refusal.the-variants.{Codeless, Range, Twice, Short}
-use Rattle.records.specs.declared.Answer.the-variants.{Refused, Taken}
+use Rattle.records.specs.declared.Answer.the-variants.{Taken}
 use Rattle.records.specs.declared.Reply.{Reply}
 use Rattle.records.specs.Records.{Pauli, pauli, Set, add}
 use Rattle.records.specs.History.{Code, sizesOf, Shot, domainOf, sizeOf, already, joined, History, ready}
@@ -159,7 +159,7 @@ module _ (u : Set) (k : ℕ) (short : Bool) (st : State) (old new : List ℕ) (r
             record {
               long = ap length f ∙ length-set mid at (element u) ∙ b .long;
               refused = m .refused;
-              says = says-nothing (add u k) st r refl (λ n j. let z : _≡_ {A = ℕ} 0 1 = cc in omega arith);
+              says = says-nothing (add u k) st r refl (λ n j. let z : _≡_ {A = ℕ} 0 1 = cc in omega arith) (ap (λ (y : Reply). y .state .reports) is);
               does = λ six flat ends long. with-code st (held flat ends old) (λ a. Answered short six (add u k) a (held flat ends old) (held flat ends new) r) e
                   (λ c s v.
                   let g : new ≡ set mid (firstOf (domainOf u) (sizesOf c) + k) (element u) = f ∙ ap (λ (z : Sizes). set mid (firstOf (domainOf u) z + k) (element u)) (v .sizes) in

@@ -3,7 +3,7 @@ use mathlib.Core.Path.{_≡_, refl, sym, ap, ap₂, _∙_, subst}
 use mathlib.Core.Bool.{Bool, true, false}
 use mathlib.Core.Option.{some}
 use mathlib.Core.List.{List}
-use Prim.Native.Nat.{ℕ, _+_, _*_, _-_, _≤_}
+use Prim.Native.Nat.{ℕ, _-_, _≤_}
 use native.Mathlib.Nat.{sub-zero}
 use lib.ListN.{length, getD, take, drop}
 use Rattle.binary.specs.Meaning.{Row}
@@ -17,7 +17,7 @@ use Rattle.records.specs.History.{History}
 use Rattle.records.specs.Table.{refusal, isReport}
 use Rattle.records.specs.Lists.{Lists, Six, Lent, held, lentOf, shortLists, shortSix}
 use Rattle.records.specs.States.{saying}
-use Rattle.records.specs.Steps.{Does, Keeps}
+use Rattle.records.specs.Steps.{Does}
 use Rattle.records.specs.Promise.{Promise, Promised}
 use Rattle.records.proofs.Answers.{answered-refused, says-refused, promised}
 use Rattle.records.proofs.Range.{long-lists}
@@ -115,7 +115,7 @@ module _ (bytes : List ℕ) (s : Shape) (v : RecordAs bytes s) where
   spoils n w e i refuses short st l r k =
       record {
         keeps = record { flat = refl; ends = refl; shot = refl; refused = λ m j. refl; says = rw e (says-refused w st r n (rw i k)) };
-        does = λ work six t. rw e (λ a h. answered-refused short six w a l n st r (refuses _ _ a) h (rw i k));
+        does = λ window work six t. rw e (λ a h. answered-refused short six w a l n st r (refuses _ _ a) h (rw i k));
       }
 
   pub take-unknown : s ≡ Unknown → (short : Bool) (st : State) (l : Lists) (r : Reply) → r ≡ saying Refusal.Unknown false st → Takes short bytes st l l r
@@ -140,7 +140,7 @@ module _ (bytes : List ℕ) (s : Shape) (v : RecordAs bytes s) where
         let w : recordOf bytes ≡ size n x z = at-size e ∙ λ t. size (sym i t) (sym j t) (sym k t) in
         record {
           keeps = record { flat = refl; ends = refl; shot = refl; refused = λ m i. refl; says = rw w (d .says) };
-          does = λ work six t. rw w (d .does l six);
+          does = λ window work six t. rw w (d .does l six);
         }
 
     pub take-row : (x : Bool) (w : ℕ) → s ≡ Shape.Row x w → (flat′ ends′ : List ℕ) → RowTaken (pauli x) st flat ends (numbers bytes 1 w) short r flat′ ends′
@@ -155,8 +155,8 @@ module _ (bytes : List ℕ) (s : Shape) (v : RecordAs bytes s) where
             refused = λ m i. let o = d .refused m i in ap₂ (λ (f g : List ℕ). held f g shot) (o .0) (o .1);
             says = rw (z .0) (d .says);
           };
-          does = λ work six t. rw (z .0) (d .does six shot (rw (numbers-length bytes 1 w) (z .1))
-              (λ k. let o = long-lists l work (sym t ∙ k) in (o .flat, o .ends)));
+          does = λ window work six t. rw (z .0) (d .does six shot (rw (numbers-length bytes 1 w) (z .1))
+              (λ k. let o = long-lists l window work (sym t ∙ k) in (o .flat, o .ends)));
         }
 
     adds : (u : Set) (k : ℕ) → recordOf bytes ≡ add u k → (shot′ : List ℕ) → Adds short u k st shot shot′ r → Takes short bytes st l (held flat ends shot′) r
@@ -169,7 +169,7 @@ module _ (bytes : List ℕ) (s : Shape) (v : RecordAs bytes s) where
             refused = λ m i. ap (λ (x : List ℕ). held flat ends x) (d .refused m i);
             says = rw e (d .says);
           };
-          does = λ work six t. rw e (d .does six flat ends (λ i. long-lists l work (sym t ∙ i) .shot));
+          does = λ window work six t. rw e (d .does six flat ends (λ i. long-lists l window work (sym t ∙ i) .shot));
         }
 
     pub take-add : (u : Set) → recordOf bytes ≡ add u (number bytes 1) → (k : ℕ) → k ≡ number bytes 1 → (shot′ : List ℕ) → Adds short u k st shot shot′ r
@@ -181,17 +181,17 @@ module _ (bytes : List ℕ) (s : Shape) (v : RecordAs bytes s) where
         let w : recordOf bytes ≡ encodes k = at-logical e ∙ ap encodes (sym i) in
         record {
           keeps = record { flat = refl; ends = refl; shot = refl; refused = λ m i. refl; says = rw w (d .says) };
-          does = λ work six t. rw w (d .does six shot);
+          does = λ window work six t. rw w (d .does six shot);
         }
 
   ----------------------------------------------------------------------
   -- The promise
 
-  pub step-other : decode? s ≡ false → (short : Bool) (st : State) (l l′ : Lists) (work : List ℕ) (six : Six) (r : Reply) → short ≡ shortLists l (length work)
-      → Takes short bytes st l l′ r → Promise st bytes (lentOf l work six) (lentOf l′ work six) r
-  step-other e short st l l′ work six r t d =
-      promised (recordOf bytes) st l l′ work six r (not-report e) (d .keeps)
-      (subst (λ (b : Bool). Does b (shortSix six) (recordOf bytes) st l l′ r) t (d .does (length work) (shortSix six) t))
+  pub step-other : decode? s ≡ false → (short : Bool) (st : State) (l l′ : Lists) (window work : List ℕ) (six : Six) (r : Reply)
+      → short ≡ shortLists l (length window) (length work) → Takes short bytes st l l′ r → Promise st bytes (lentOf l window work six) (lentOf l′ window work six) r
+  step-other e short st l l′ window work six r t d =
+      promised (recordOf bytes) st l l′ window work six r (not-report e) (d .keeps)
+      (subst (λ (b : Bool). Does b (shortSix six) (recordOf bytes) st l l′ r) t (d .does (length window) (length work) (shortSix six) t))
 
   pub step-decode : decode? s ≡ true → (st : State) (budget limit : ℕ) → budget ≡ getD bytes 1 0 → limit ≡ number bytes 2 → (old new : Lent) (r : Reply)
       → Promised (report budget limit) st old new r → Promise st bytes old new r

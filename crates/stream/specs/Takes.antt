@@ -10,7 +10,7 @@ use Rattle.records.specs.Records.{recordOf}
 use Rattle.records.specs.Lists.{Lists, shortLists}
 use Rattle.records.specs.Steps.{Does, Keeps}
 
--- short is what the caller says of the lists of code and shot and of a work list.
+-- short is what the caller says of the lists of code and shot, of the window and of a work list.
 pub record Takes (short : Bool) (bytes : List ℕ) (st : State) (old new : Lists) (r : Reply) : Type 0 where
   pub keeps : Keeps (recordOf bytes) st old new r
-  pub does : (work : ℕ) (six : ℕ → Bool) → short ≡ shortLists old work → Does short six (recordOf bytes) st old new r
+  pub does : (window work : ℕ) (six : ℕ → Bool) → short ≡ shortLists old window work → Does short six (recordOf bytes) st old new r

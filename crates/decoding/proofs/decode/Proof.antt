@@ -1,7 +1,4 @@
 -- `decoding::decode` meets its contract: it is refused, or both halves are decoded. Assumes nothing.
-use mathlib.Core.Path.{ap}
-use Rattle.records.specs.declared.State.{State}
-use Rattle.records.specs.declared.Answer.the-variants.{Decoded}
 use Rattle.decoding.proofs.Decoding.{passed, decode-refused, halves-fit, decode-done}
 use borrow.Author.Needs.{needs}
 use Rattle.decoding.proofs.decode.Statement.{statement}
@@ -40,6 +37,9 @@ same-length-7 c = search needs
 same-length-8 : tie.Need-same-length-8
 same-length-8 c = search needs
 
+same-length-9 : tie.Need-same-length-9
+same-length-9 c = search needs
+
 returns : tie.Need-returns
 returns c = decode-refused _ _ _ _ _ _ _ (c .before .before .before .before .lacking .ensures) (c .before .before .before .tested .ensures) (c .before .test .given .1)
 
@@ -50,16 +50,13 @@ begin-requires : tie.Need-begin-requires
 begin-requires c κs = search needs
 
 decode-halves-requires : tie.Need-decode-halves-requires
-decode-halves-requires c κs = halves-fit _ _ _ _ _ _ _ _ _ (passed _ _ _ _ (c .before .before .before .before .before .before .before .before .before .before .before .before .before .before .before .lacking .ensures) (c .before .before .before .before .before .before .before .before .before .before .before .before .before .before .tested .ensures) (c .before .before .before .before .before .before .before .before .before .before .before .before .enum-told .given .1)) (c .before .before .before .before .before .before .before .before .before .before .begin .ensures)
+decode-halves-requires c κs = halves-fit _ _ _ _ _ _ _ _ _ _ (passed _ _ _ _ (c .before .before .before .before .before .before .before .before .before .before .before .before .before .before .before .lacking .ensures) (c .before .before .before .before .before .before .before .before .before .before .before .before .before .before .tested .ensures) (c .before .before .before .before .before .before .before .before .before .before .before .before .enum-told .given .1)) (c .before .before .before .before .before .before .before .before .before .before .begin .ensures)
 
-ended-requires : tie.Need-ended-requires
-ended-requires c κs = search needs
-
-same-length-9 : tie.Need-same-length-9
-same-length-9 c = c .before .before .before .before .before .before .before .before .before .before .before .before .before .before .before .before .before .before .before .before .before .before .before .before .before .before .begin .ensures .long
+report-of-requires : tie.Need-report-of-requires
+report-of-requires c κs = search needs
 
 same-length-10 : tie.Need-same-length-10
-same-length-10 c = search needs
+same-length-10 c = c .before .before .before .before .before .before .before .before .before .before .before .before .before .before .before .before .before .before .before .before .before .before .before .before .before .before .before .before .before .begin .ensures .long
 
 same-length-11 : tie.Need-same-length-11
 same-length-11 c = search needs
@@ -79,10 +76,15 @@ same-length-15 c = search needs
 same-length-16 : tie.Need-same-length-16
 same-length-16 c = search needs
 
+same-length-17 : tie.Need-same-length-17
+same-length-17 c = search needs
+
+same-length-18 : tie.Need-same-length-18
+same-length-18 c = search needs
+
 returns-2 : tie.Need-returns-2
 returns-2 c =
-    decode-done _ _ _ _ _ _ _ _ _ (passed _ _ _ _ (c .before .before .before .before .before .before .before .before .before .before .before .before .before .before .before .before .before .before .before .before .before .before .before .before .before .before .before .before .before .before .before .lacking .ensures) (c .before .before .before .before .before .before .before .before .before .before .before .before .before .before .before .before .before .before .before .before .before .before .before .before .before .before .before .before .before .before .tested .ensures) (c .before .before .before .before .before .before .before .before .before .before .before .before .before .before .before .before .before .before .before .before .before .before .before .before .before .before .before .before .enum-told .given .1)) (c .before .before .before .before .before .before .before .before .before .before .before .before .before .before .before .before .before .before .before .before .before .before .before .before .before .before .begin .ensures) _ _ _ (c .before .before .before .before .before .before .before .before .before .before .before .before .before .before .before .decode-halves .ensures) _
-    (ap (λ (x : State). record { state = x; answer = Decoded (c .before .before .before .before .before .before .before .before .before .before .before .before .before .before .before .decode-halves .result) }) (c .ended .ensures))
+    decode-done _ _ _ _ _ _ _ _ _ _ (passed _ _ _ _ (c .before .before .before .before .before .before .before .before .before .before .before .before .before .before .before .before .before .before .before .before .before .before .before .before .before .before .before .before .before .before .before .before .before .before .lacking .ensures) (c .before .before .before .before .before .before .before .before .before .before .before .before .before .before .before .before .before .before .before .before .before .before .before .before .before .before .before .before .before .before .before .before .before .tested .ensures) (c .before .before .before .before .before .before .before .before .before .before .before .before .before .before .before .before .before .before .before .before .before .before .before .before .before .before .before .before .before .before .before .enum-told .given .1)) (c .before .before .before .before .before .before .before .before .before .before .before .before .before .before .before .before .before .before .before .before .before .before .before .before .before .before .before .before .before .begin .ensures) _ _ _ _ (c .before .before .before .before .before .before .before .before .before .before .before .before .before .before .before .before .before .before .decode-halves .ensures) _ (c .before .before .report-of .ensures)
 
 pub decode-spec : {M : Type 1} → statement M
 decode-spec =
@@ -99,12 +101,12 @@ decode-spec =
     same-length-6
     same-length-7
     same-length-8
+    same-length-9
     returns
     enum-told
     begin-requires
     decode-halves-requires
-    ended-requires
-    same-length-9
+    report-of-requires
     same-length-10
     same-length-11
     same-length-12
@@ -112,4 +114,6 @@ decode-spec =
     same-length-14
     same-length-15
     same-length-16
+    same-length-17
+    same-length-18
     returns-2)

@@ -50,19 +50,19 @@ same-length-9 c = search needs
 same-length-10 : tie.Need-same-length-10
 same-length-10 c = search needs
 
+same-length-11 : tie.Need-same-length-11
+same-length-11 c = search needs
+
 returns : tie.Need-returns
 returns c =
-    let h = c .before .before .before .before .before .before .before .before .before .before .before .before .before .before .before .before .before .before .before .before .before .before .before .before .before .before .before in
-    step-decode _ _ (h .before .before .before .before .shape-of .ensures) (sym (h .before .before .before .is-decode .ensures) ∙ h .before .before .if1 .taken) _ _ _ (h .before .byte-at .ensures) (h .number .ensures) _ _ _ (c .before .before .before .before .before .before .before .before .before .before .before .before .before .before .before .before .decode .ensures)
+    let h = c .before .before .before .before .before .before .before .before .before .before .before .before .before .before .before .before .before .before .before .before .before .before .before .before .before .before .before .before .before in
+    step-decode _ _ (h .before .before .before .before .before .shape-of .ensures) (sym (h .before .before .before .before .is-decode .ensures) ∙ h .before .before .before .if1 .taken) _ _ _ (h .before .before .byte-at .ensures) (h .before .number .ensures) _ _ _ (c .before .before .before .before .before .before .before .before .before .before .before .before .before .before .before .before .before .before .decode .ensures)
 
 short-lists-requires : tie.Need-short-lists-requires
 short-lists-requires c κs = search needs
 
 take-requires : tie.Need-take-requires
-take-requires c κs = (c .before .before .before .before .before .before .before .before .before .before .shape-of .ensures, sym (c .before .before .before .before .before .before .before .before .before .is-decode .ensures) ∙ c .before .before .before .before .before .before .before .before .if1 .left)
-
-same-length-11 : tie.Need-same-length-11
-same-length-11 c = search needs
+take-requires c κs = (c .before .before .before .before .before .before .before .before .before .before .before .shape-of .ensures, sym (c .before .before .before .before .before .before .before .before .before .before .is-decode .ensures) ∙ c .before .before .before .before .before .before .before .before .before .if1 .left)
 
 same-length-12 : tie.Need-same-length-12
 same-length-12 c = search needs
@@ -73,9 +73,15 @@ same-length-13 c = search needs
 same-length-14 : tie.Need-same-length-14
 same-length-14 c = search needs
 
+same-length-15 : tie.Need-same-length-15
+same-length-15 c = search needs
+
+same-length-16 : tie.Need-same-length-16
+same-length-16 c = search needs
+
 returns-2 : tie.Need-returns-2
 returns-2 c =
-    step-other _ _ (c .before .before .before .before .before .before .before .before .before .before .before .before .before .before .before .before .before .shape-of .ensures) (sym (c .before .before .before .before .before .before .before .before .before .before .before .before .before .before .before .before .is-decode .ensures) ∙ c .before .before .before .before .before .before .before .before .before .before .before .before .before .before .before .if1 .left) _ _ _ _ _ _ _ (c .before .before .before .before .before .before .before .before .before .before .short-lists .ensures) (c .before .before .before .before .before .before .take .ensures)
+    step-other _ _ (c .before .before .before .before .before .before .before .before .before .before .before .before .before .before .before .before .before .before .shape-of .ensures) (sym (c .before .before .before .before .before .before .before .before .before .before .before .before .before .before .before .before .before .is-decode .ensures) ∙ c .before .before .before .before .before .before .before .before .before .before .before .before .before .before .before .before .if1 .left) _ _ _ _ _ _ _ _ (c .before .before .before .before .before .before .before .before .before .before .short-lists .ensures) (c .before .before .before .before .before .before .take .ensures)
 
 pub step-spec : {M : Type 1} → statement M
 step-spec =
@@ -96,11 +102,13 @@ step-spec =
     same-length-8
     same-length-9
     same-length-10
+    same-length-11
     returns
     short-lists-requires
     take-requires
-    same-length-11
     same-length-12
     same-length-13
     same-length-14
+    same-length-15
+    same-length-16
     returns-2)
