@@ -16,7 +16,7 @@ use Rattle.records.specs.Table.{takes}
 use Rattle.records.specs.Lists.{Lent, shortSix}
 use Rattle.records.specs.Promise.{completed, answerOf, KeptLengths, Promise}
 use Rattle.records.specs.States.{freshState}
-use Rattle.claim.specs.Calls.{Step, step, Run, ended, call, past, Place}
+use Rattle.claim.specs.Calls.{passedOf, Step, step, Run, ended, call, past, Place}
 use Rattle.claim.proofs.Claim.{claim}
 use Rattle.caller.specs.TwoRecords.{shortsOf, refusalOf, afterFirst, answerToSecond, Decode, twoCalls, TwoRecords}
 
@@ -55,13 +55,13 @@ unfolding past
 two-records st first second l₀ l₁ l₂ r₁ r₂ h p₁ p₂ =
     let k₁ : Step = record { bytes = first; work = l₀ .work; six = l₀ .six; reply = r₁; left = l₁ } in
     let k₂ : Step = record { bytes = second; work = l₁ .work; six = l₁ .six; reply = r₂; left = l₂ } in
-    let place : Place (step k₂) = record { state = st; lists = l₀ .lists; fresh = ap (λ (x : State). x .phase) h; before = step k₁ ∷ []; after = []; run = call p₁ (call p₂ ended) } in
+    let place : Place (step k₂) = record { state = st; lists = passedOf l₀; fresh = (ap (λ (x : State). x .phase) h, ap (λ (x : State). x .reports) h); before = step k₁ ∷ []; after = []; run = call p₁ (call p₂ ended) } in
     let answer : r₂ .answer ≡ answerToSecond (shortsOf l₀) first second = rw (p₁ .lengths .work, six-same l₀ l₁ (p₁ .lengths)) at (claim .told k₂ place .answer) in
     let a : History = afterFirst (shortsOf l₀) first in
     record {
       replied = r₁;
       left = l₁;
-      run = subst (λ (s : State). Run s (l₀ .lists) (twoCalls first second l₀ r₁ l₁ r₂ l₂)) h (place .run);
+      run = subst (λ (s : State). Run s (passedOf l₀) (twoCalls first second l₀ r₁ l₁ r₂ l₂)) h (place .run);
       answer = answer;
       right = λ d e.
           let z = decode-of (refusalOf (shortsOf l₀) second a) (recordOf second) a d (sym answer ∙ e) in

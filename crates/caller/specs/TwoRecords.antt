@@ -24,16 +24,17 @@ use Rattle.records.specs.Table.{refusal, afterwards}
 use Rattle.records.specs.Lists.{Six, Lent, shortLists, shortSix}
 use Rattle.records.specs.Promise.{answerOf}
 use Rattle.records.specs.States.{freshState}
-use Rattle.claim.specs.Calls.{Call, step, Run}
-use Rattle.claim.specs.Claim.{reportFor, listsFor, HalfRight}
+use Rattle.claim.specs.Calls.{passedOf, Call, step, Run}
+use Rattle.claim.specs.Window.{reportFor}
+use Rattle.claim.specs.Claim.{listsFor, HalfRight}
 
--- A list of code, shot or work; one of the six lists of a decode of n qubits.
+-- A list of code, shot, window or work; one of the six lists of a decode of n qubits.
 pub record Shorts : Type 0 where
   pub lists : Bool
   pub six : ℕ → Bool
 
 abbrev pub shortsOf : Lent → Shorts
-shortsOf l = record { lists = shortLists (l .lists) (length (l .work)); six = shortSix (l .six) }
+shortsOf l = record { lists = shortLists (l .lists) (length (l .window)) (length (l .work)); six = shortSix (l .six) }
 
 -- The refusal that a record meets at this code and shot.
 abbrev pub refusalOf : Shorts → List ℕ → History → Option Refusal
@@ -70,7 +71,7 @@ twoCalls first second old r left r′ new =
 pub record TwoRecords (first second : List ℕ) (old new : Lent) (r : Reply) : Type 0 where
   pub replied : Reply
   pub left : Lent
-  pub run : Run freshState (old .lists) (twoCalls first second old replied left r new)
+  pub run : Run freshState (passedOf old) (twoCalls first second old replied left r new)
   pub answer : r .answer ≡ answerToSecond (shortsOf old) first second
   pub right : (d : Report) → r .answer ≡ Decoded d
       → (k : Decode (afterFirst (shortsOf old) first) (recordOf second)) × Right k d (new .six)

@@ -8,6 +8,7 @@ pub fn two_records(
     flat: &mut [u16],
     ends: &mut [u16],
     shot: &mut [u8],
+    window: &mut [u16],
     work: &mut [u64],
     x_marks: &mut [u8],
     x_forms: &mut [u64],
@@ -18,7 +19,7 @@ pub fn two_records(
     first: &[u8],
     second: &[u8],
 ) -> Reply
-    ensures { λ r. ⌜ TwoRecords (now (first .entry)) (now (second .entry)) (lentOf (held (now (flat .entry)) (now (ends .entry)) (now (shot .entry))) (now (work .entry)) (sixOf (now («x_marks» .entry)) (now («x_forms» .entry)) (now («x_correction» .entry)) (now («z_marks» .entry)) (now («z_forms» .entry)) (now («z_correction» .entry)))) (lentOf (held (now (flat .exit)) (now (ends .exit)) (now (shot .exit))) (now (work .exit)) (sixOf (now («x_marks» .exit)) (now («x_forms» .exit)) (now («x_correction» .exit)) (now («z_marks» .exit)) (now («z_forms» .exit)) (now («z_correction» .exit)))) r ⌝ }
+    ensures { λ r. ⌜ TwoRecords (now (first .entry)) (now (second .entry)) (lentOf (held (now (flat .entry)) (now (ends .entry)) (now (shot .entry))) (now (window .entry)) (now (work .entry)) (sixOf (now («x_marks» .entry)) (now («x_forms» .entry)) (now («x_correction» .entry)) (now («z_marks» .entry)) (now («z_forms» .entry)) (now («z_correction» .entry)))) (lentOf (held (now (flat .exit)) (now (ends .exit)) (now (shot .exit))) (now (window .exit)) (now (work .exit)) (sixOf (now («x_marks» .exit)) (now («x_forms» .exit)) (now («x_correction» .exit)) (now («z_marks» .exit)) (now («z_forms» .exit)) (now («z_correction» .exit)))) r ⌝ }
 {
     let start = states::fresh();
     let to_first = stream::step(
@@ -26,6 +27,7 @@ pub fn two_records(
         flat,
         ends,
         shot,
+        window,
         work,
         x_marks,
         x_forms,
@@ -41,6 +43,7 @@ pub fn two_records(
         flat,
         ends,
         shot,
+        window,
         work,
         x_marks,
         x_forms,

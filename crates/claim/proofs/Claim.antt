@@ -36,66 +36,86 @@ use Rattle.records.specs.History.{Code, Shot, History, empty, ready, other, hal
 use Rattle.records.specs.Lowest.{lowest, Numbered}
 use Rattle.records.specs.Table.{refusalNumber, tests, refusal, NumberedLaw, afterwards}
 use Rattle.records.specs.Lists.{Lists, Six, Lent, shortLists, shortHalf, shortSix, marks, ShotIn, Holds, Represents}
-use Rattle.records.specs.Promise.{refusalAt, answerOf, Left, Written, Unworked, KeptLengths}
+use Rattle.records.specs.Promise.{refusalAt, answerOf, Left, Written, Unworked, KeptLengths, WindowLeft}
 use Rattle.records.proofs.Range.{LongHalf, long-half}
 use Rattle.records.proofs.Numbers.{lowest-numbered}
-use Rattle.claim.specs.Calls.{Step, lent, Call, step, Keeps, stateLeft, listsLeft, Run, call, makes, past, Place, at, begins, stateAfter}
+use Rattle.claim.specs.Calls.{Passed, passedOf, Step, lent, Call, step, look, Keeps, stateLeft, listsLeft, Run, call, makes, past, Place, at, begins, stateAfter}
+use Rattle.claim.specs.Window.{reportsBy, reportsOf, reportFor, KeptIn}
+use Rattle.claim.proofs.Window.{kept-none, kept-after, read-fresh}
 use Rattle.claim.proofs.Unread.{AllRead, past-read}
 use Rattle.claim.proofs.Candidates.{classes-shown}
 use Rattle.claim.specs.Candidates.{ClassesShown}
-use Rattle.claim.specs.Claim.{Told, reportFor, listsFor, shows, Reported, HalfRight, SameHalf, Claim}
+use Rattle.claim.specs.Claim.{Told, listsFor, shows, Reported, HalfRight, SameHalf, Claim}
 
 ----------------------------------------------------------------------
 -- Lengths
 
 -- Lists as long as others.
-pub record AsLong (l l′ : Lists) : Type 0 where
-  pub flat : length (l .flat) ≡ length (l′ .flat)
-  pub ends : length (l .ends) ≡ length (l′ .ends)
-  pub shot : length (l .shot) ≡ length (l′ .shot)
+pub record AsLong (l l′ : Passed) : Type 0 where
+  pub flat : length (l .lists .flat) ≡ length (l′ .lists .flat)
+  pub ends : length (l .lists .ends) ≡ length (l′ .lists .ends)
+  pub shot : length (l .lists .shot) ≡ length (l′ .lists .shot)
+  pub window : length (l .window) ≡ length (l′ .window)
 
-short-same : (l l′ : Lists) → AsLong l l′ → (work : ℕ) → shortLists l work ≡ shortLists l′ work
+short-same : (l l′ : Passed) → AsLong l l′ → (work : ℕ) → shortLists (l .lists) (length (l .window)) work ≡ shortLists (l′ .lists) (length (l′ .window)) work
 unfolding shortLists
-short-same l l′ e work = rw (e .flat, e .ends, e .shot)
+short-same l l′ e work = rw (e .flat, e .ends, e .shot, e .window)
 
 -- A refusal is told from lengths alone.
-refusal-same : (l l′ : Lists) → AsLong l l′ → (k : Step) (a : History) → refusalAt (recordOf (k .bytes)) a (lent l k) ≡ refusalAt (recordOf (k .bytes)) a (lent l′ k)
+refusal-same : (l l′ : Passed) → AsLong l l′ → (k : Step) (a : History) → refusalAt (recordOf (k .bytes)) a (lent l k) ≡ refusalAt (recordOf (k .bytes)) a (lent l′ k)
 refusal-same l l′ e k a = rw (short-same l l′ e (length (k .work)))
 
 ----------------------------------------------------------------------
 -- The call in its run
 
 -- A call keeps the lists' lengths.
-long-after : (l₀ l : Lists) (st : State) (k : Call) → AsLong l₀ l → Keeps st l k → AsLong l₀ (listsLeft l k)
+long-after : (l₀ l : Passed) (st : State) (k : Call) → AsLong l₀ l → Keeps st l k → AsLong l₀ (listsLeft l k)
 long-after l₀ l st (step k) e p = record {
   flat = e .flat ∙ sym (p .lengths .flat);
   ends = e .ends ∙ sym (p .lengths .ends);
   shot = e .shot ∙ sym (p .lengths .shot);
+  window = e .window ∙ sym (p .lengths .window);
 }
+long-after l₀ l st (look a) e p = e
 
 -- State and lists hold the code and shot that the call makes.
-held-after : (l₀ l : Lists) (st : State) (a : History) (k : Call) → AsLong l₀ l → Represents a st l → Keeps st l k
-    → Represents (makes l₀ a k) (stateLeft st k) (listsLeft l k)
+held-after : (l₀ l : Passed) (st : State) (a : History) (k : Call) → AsLong l₀ l → Represents a st (l .lists) → Keeps st l k
+    → Represents (makes l₀ a k) (stateLeft st k) (listsLeft l k .lists)
 held-after l₀ l st a (step k) e v p =
     subst (λ (r : Option Refusal). Represents (afterwards r (recordOf (k .bytes)) a) (k .reply .state) (k .left .lists))
     (sym (refusal-same l₀ l e k a)) (p .carried a v .next)
+held-after l₀ l st a (look w) e v p = v
 
--- What the calls before leave: a state and lists that hold the code and shot of `past`, and lists as long as at the start.
-pub record Reached (l : Lists) (a : History) (k : Call) (st : State) (l′ : Lists) : Type 0 where
+-- The number of reports and the window hold those that the call makes.
+kept-after-call : (l : Passed) (st : State) (rs : List Report) (k : Call) → KeptIn rs (st .reports) (l .window) → Keeps st l k
+    → KeptIn (reportsBy rs k) (stateLeft st k .reports) (listsLeft l k .window)
+kept-after-call l st rs (step k) v p =
+    subst (λ (m : ℕ). KeptIn (reportsBy rs (step k)) m (k .left .window)) (sym (p .says .reports))
+    (kept-after (recordOf (k .bytes)) (k .reply .answer) rs (st .reports) (l .window) (k .left .window) v (p .window))
+kept-after-call l st rs (look a) v p = v
+
+-- What the calls before leave: a state and lists that hold the code and shot of `past` and the reports told from the calls, and lists as long as at the
+-- start.
+pub record Reached (l : Passed) (a : History) (rs : List Report) (k : Call) (st : State) (l′ : Passed) : Type 0 where
   pub long : AsLong l l′
-  pub held : Represents a st l′
+  pub held : Represents a st (l′ .lists)
+  pub window : KeptIn rs (st .reports) (l′ .window)
   pub kept : Keeps st l′ k
 
-reached : (l₀ l : Lists) (st : State) (a : History) (before after : List Call) (k : Call) → AsLong l₀ l → Represents a st l
-    → Run st l (before ++ (k ∷ after)) → Reached l₀ (past l₀ a before) k (stateAfter st before) (begins l before)
-unfolding past
-reached l₀ l st a [] after k e v (call p run) = record { long = e; held = v; kept = p }
-reached l₀ l st a (j ∷ before) after k e v (call p run) =
-    reached l₀ (listsLeft l j) (stateLeft st j) (makes l₀ a j) before after k (long-after l₀ l st j e p) (held-after l₀ l st a j e v p) run
+reached : (l₀ l : Passed) (st : State) (a : History) (rs : List Report) (before after : List Call) (k : Call) → AsLong l₀ l → Represents a st (l .lists)
+    → KeptIn rs (st .reports) (l .window) → Run st l (before ++ (k ∷ after))
+    → Reached l₀ (past l₀ a before) (reportsOf rs before) k (stateAfter st before) (begins l before)
+unfolding past reportsOf
+reached l₀ l st a rs [] after k e v w (call p run) = record { long = e; held = v; window = w; kept = p }
+reached l₀ l st a rs (j ∷ before) after k e v w (call p run) =
+    reached l₀ (listsLeft l j) (stateLeft st j) (makes l₀ a j) (reportsBy rs j) before after k (long-after l₀ l st j e p) (held-after l₀ l st a j e v p)
+    (kept-after-call l st rs j w p) run
 
-placed : (k : Call) (p : Place k) → Reached (p .lists) (at p) k (stateAfter (p .state) (p .before)) (begins (p .lists) (p .before))
+placed : (k : Call) (p : Place k)
+    → Reached (p .lists) (at p) (reportsOf [] (p .before)) k (stateAfter (p .state) (p .before)) (begins (p .lists) (p .before))
 placed k p =
-    reached (p .lists) (p .lists) (p .state) empty (p .before) (p .after) k (record { flat = refl; ends = refl; shot = refl }) (p .fresh) (p .run)
+    reached (p .lists) (p .lists) (p .state) empty [] (p .before) (p .after) k (record { flat = refl; ends = refl; shot = refl; window = refl }) (p .fresh .0)
+    (rw (p .fresh .1) (kept-none (p .lists .window))) (p .run)
 
 numbered : (short : Bool) (six : ℕ → Bool) (r : Record) (a : History) → Numbered refusalNumber (tests short six r a) (refusal short six r a)
 unfolding NumberedLaw
@@ -107,9 +127,9 @@ told k p =
     let c = z .kept .carried (at p) (z .held) in
     let e = sym (refusal-same (p .lists) (begins (p .lists) (p .before)) (z .long) k (at p)) in
     record {
-      number = numbered (shortLists (p .lists) (length (k .work))) (shortSix (k .six)) (recordOf (k .bytes)) (at p);
+      number = numbered (shortLists (p .lists .lists) (length (p .lists .window)) (length (k .work))) (shortSix (k .six)) (recordOf (k .bytes)) (at p);
       answer = subst (λ (r : Option Refusal). k .reply .answer ≡ answerOf r (recordOf (k .bytes)) (at p)) e (c .answer);
-      lists = subst (λ (r : Option Refusal). Left r (recordOf (k .bytes)) (at p) (begins (p .lists) (p .before)) (k .left .lists)) e (c .lists);
+      lists = subst (λ (r : Option Refusal). Left r (recordOf (k .bytes)) (at p) (begins (p .lists) (p .before) .lists) (k .left .lists)) e (c .lists);
       six = subst (λ (r : Option Refusal). Written r (recordOf (k .bytes)) (at p) (k .six) (k .left .six)) e (c .six);
       work = subst (λ (r : Option Refusal). Unworked r (recordOf (k .bytes)) (k .work) (k .left .work)) e (c .work);
     }
@@ -175,9 +195,9 @@ shown-as k p c s budget limit r v =
     let z = placed (step k) p in
     let t = told k p in
     let st = stateAfter (p .state) (p .before) in
-    let held : Holds c s st (begins (p .lists) (p .before)) = subst (λ (a : History). Represents a st (begins (p .lists) (p .before))) (v .at) (z .held) in
+    let held : Holds c s st (begins (p .lists) (p .before) .lists) = subst (λ (a : History). Represents a st (begins (p .lists) (p .before) .lists)) (v .at) (z .held) in
     let o = outcomes c s budget limit r (k .six) (k .left .six) (k .reply .answer) (refusalAt (recordOf (k .bytes)) (at p) (lent (p .lists) k)) (recordOf (k .bytes)) (at p) (v .at) (v .decode) (v .answer) (t .answer) (t .six) in
-    let good : (b : Pauli) → Obeys (half b c s) = λ b. obeys b c s st (begins (p .lists) (p .before)) held in
+    let good : (b : Pauli) → Obeys (half b c s) = λ b. obeys b c s st (begins (p .lists) (p .before) .lists) held in
     record {
       obeyed = good;
       same = λ b. ap (λ (u : HalfReport). seen (c .n) u (listsFor b (k .left .six))) (o .reports b)
@@ -215,7 +235,7 @@ left-long k p c s budget limit r v b =
     let n = reported-none (refusalAt (recordOf (k .bytes)) (at p) (lent (p .lists) k)) (recordOf (k .bytes)) (at p) (k .reply .answer) r (v .answer) (t .answer) in
     let m : refusalAt (report budget limit) (ready c s) (lent (p .lists) k) ≡ none =
     subst (λ (a : History). refusalAt (report budget limit) a (lent (p .lists) k) ≡ none) (v .at) (subst (λ (w : Record). refusalAt w (at p) (lent (p .lists) k) ≡ none) (v .decode) n) in
-    let few = or-false (shortHalf (k .six .x) (c .n)) (shortHalf (k .six .z) (c .n)) (six-long (shortLists (p .lists) (length (k .work))) (shortSix (k .six)) budget limit c s m) in
+    let few = or-false (shortHalf (k .six .x) (c .n)) (shortHalf (k .six .z) (c .n)) (six-long (shortLists (p .lists .lists) (length (p .lists .window)) (length (k .work))) (shortSix (k .six)) budget limit c s m) in
     by b (placed (step k) p .kept .lengths) few
   where
     by : (b : Pauli) → KeptLengths (lent (begins (p .lists) (p .before)) k) (k .left) → (shortHalf (k .six .x) (c .n) ≡ false) × (shortHalf (k .six .z) (c .n) ≡ false)
@@ -227,19 +247,21 @@ left-long k p c s budget limit r v b =
 -- A kind 8 that agrees
 
 -- A call that leaves state and lists as they were can be left out.
-without : (st : State) (l : Lists) (before after : List Call) (k : Call) → stateLeft (stateAfter st before) k ≡ stateAfter st before
+without : (st : State) (l : Passed) (before after : List Call) (k : Call) → stateLeft (stateAfter st before) k ≡ stateAfter st before
     → listsLeft (begins l before) k ≡ begins l before → Run st l (before ++ (k ∷ after)) → Run st l (before ++ after)
-without st l [] after k e f (call p run) = subst (λ (x : Lists). Run st x after) f (subst (λ (x : State). Run x (listsLeft l k) after) e run)
+without st l [] after k e f (call p run) = subst (λ (x : Passed). Run st x after) f (subst (λ (x : State). Run x (listsLeft l k) after) e run)
 without st l (j ∷ before) after k e f (call p run) = call p (without (stateLeft st j) (listsLeft l j) before after k e f run)
 
 untouched : (q : Option Refusal) (w : Record) (a : History) (j : ℕ) (x : Answer) (old new : Lent) → w ≡ encodes j → x ≡ Taken → x ≡ answerOf q w a
-    → Left q w a (old .lists) (new .lists) → Written q w a (old .six) (new .six) → Unworked q w (old .work) (new .work) → new ≡ old
-untouched (some n) w a j x old new e f g lists six work = let z : _≡_ {A = Bool} true false = cc in never refl z
-untouched none w a j x old new e f g lists six work =
+    → Left q w a (old .lists) (new .lists) → Written q w a (old .six) (new .six) → Unworked q w (old .work) (new .work)
+    → (st : State) → WindowLeft w st (old .window) (new .window) x → new ≡ old
+untouched (some n) w a j x old new e f g lists six work st window = let z : _≡_ {A = Bool} true false = cc in never refl z
+untouched none w a j x old new e f g lists six work st window =
     let lists′ : new .lists ≡ old .lists = subst (λ (u : Record). Left none u a (old .lists) (new .lists)) e lists in
     let six′ : new .six ≡ old .six = subst (λ (u : Record). Written none u a (old .six) (new .six)) e six in
     let work′ : new .work ≡ old .work = subst (λ (u : Record). Unworked none u (old .work) (new .work)) e work in
-    λ t. record { lists = lists′ t; work = work′ t; six = six′ t }
+    let window′ : new .window ≡ old .window = subst (λ (u : Record). WindowLeft u st (old .window) (new .window) x) e window in
+    λ t. record { lists = lists′ t; window = window′ t; work = work′ t; six = six′ t }
 
 agreed : (k : Step) (p : Place (step k)) (j : ℕ) → recordOf (k .bytes) ≡ encodes j → k .reply .answer ≡ Taken
     → (k .left ≡ lent (begins (p .lists) (p .before)) k) × Run (p .state) (p .lists) (p .before ++ p .after)
@@ -247,8 +269,8 @@ agreed k p j e f =
     let z = placed (step k) p in
     let l = begins (p .lists) (p .before) in
     let c = z .kept .carried (at p) (z .held) in
-    let same = untouched (refusalAt (recordOf (k .bytes)) (at p) (lent l k)) (recordOf (k .bytes)) (at p) j (k .reply .answer) (lent l k) (k .left) e f (c .answer) (c .lists) (c .six) (c .work) in
-    (same, without (p .state) (p .lists) (p .before) (p .after) (step k) (z .kept .says .agreed j e f) (ap (λ (x : Lent). x .lists) same) (p .run))
+    let same = untouched (refusalAt (recordOf (k .bytes)) (at p) (lent l k)) (recordOf (k .bytes)) (at p) j (k .reply .answer) (lent l k) (k .left) e f (c .answer) (c .lists) (c .six) (c .work) (stateAfter (p .state) (p .before)) (z .kept .window) in
+    (same, without (p .state) (p .lists) (p .before) (p .after) (step k) (z .kept .says .agreed j e f) (ap passedOf same) (p .run))
 
 ----------------------------------------------------------------------
 -- The claim
@@ -313,6 +335,15 @@ claim =
           let unmarked : AllRead (ready c s) = subst AllRead (v .at) (past-read (p .lists) empty (p .before) read tt) in
           shown-as k p c s budget limit r v .same b ∙ half-read (half b c s) (λ i. ap (λ (f : ℕ → Bool). f i) (unmarked (other b))) budget limit;
       agreed = agreed;
+      entered = λ k p. placed (step k) p .kept .window;
+      kept = λ k p.
+          let z = placed k p in
+          kept-after-call (begins (p .lists) (p .before)) (stateAfter (p .state) (p .before)) (reportsOf [] (p .before)) k (z .window) (z .kept);
+      window = λ a p.
+          let z = placed (look a) p in (
+            read-fresh (reportsOf [] (p .before)) (stateAfter (p .state) (p .before) .reports) (begins (p .lists) (p .before) .window) (z .window) a (z .kept) (p .lists .window) (z .long .window),
+            without (p .state) (p .lists) (p .before) (p .after) (look a) refl refl (p .run),
+          );
       candidates = λ k p c s budget limit r v b over few.
           let z = shown-as k p c s budget limit r v in
           shown-classes (half b c s) (z .obeyed b) budget limit (reportFor b r) (listsFor b (k .left .six)) (left-long k p c s budget limit r v b) (z .same b) over few;

@@ -1,3 +1,4 @@
 pub mod Unread
 pub mod Candidates
+pub mod Window
 pub mod Claim

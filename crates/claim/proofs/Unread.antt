@@ -13,9 +13,8 @@ use Rattle.records.specs.declared.Refusal.the-variants.{Unknown, Length, Size, 
 use Rattle.records.specs.Records.{Pauli, X, Z, lost, lit, unread, Record, unknown, wrong, size, row, add, report, encodes, recordOf}
 use Rattle.records.specs.History.{History, empty, loading, ready, emptyShot, spoil, endShot, joined, loaded}
 use Rattle.records.specs.Table.{isReport, leaves, takes, afterwards}
-use Rattle.records.specs.Lists.{Lists}
 use Rattle.records.specs.Promise.{refusalAt}
-use Rattle.claim.specs.Calls.{Call, step, lent, makes, past, Read}
+use Rattle.claim.specs.Calls.{Passed, Call, step, look, lent, makes, past, Read}
 
 abbrev pub AllRead : History → Type 0
 AllRead empty = Unit {0}
@@ -78,14 +77,15 @@ leaves-read Spoiled w a v = ended-read a
 leaves-read Short w a v = short-read (isReport w) a v
 leaves-read Encoded w a v = tt
 
-makes-read : (l : Lists) (a : History) (k : Call) → Read k → AllRead a → AllRead (makes l a k)
+makes-read : (l : Passed) (a : History) (k : Call) → Read k → AllRead a → AllRead (makes l a k)
 makes-read l a (step k) read v = by (refusalAt (recordOf (k .bytes)) a (lent l k))
   where
     by : (r : Option Refusal) → AllRead (afterwards r (recordOf (k .bytes)) a)
     by none = takes-read (recordOf (k .bytes)) read a v
     by (some n) = leaves-read n (recordOf (k .bytes)) a v
+makes-read l a (look w) read v = v
 
-pub past-read : (l : Lists) (a : History) (ks : List Call) → All Read ks → AllRead a → AllRead (past l a ks)
+pub past-read : (l : Passed) (a : History) (ks : List Call) → All Read ks → AllRead a → AllRead (past l a ks)
 unfolding past
 past-read l a [] read v = v
 past-read l a (k ∷ ks) read v = past-read l (makes l a k) ks (read .1) (makes-read l a k (read .0) v)

@@ -2,15 +2,14 @@
 --   Told       demand 1, of one record
 --   HalfRight  demands 2 and 3, of one half that a decode reports
 --   Claim      every call in every run from a fresh start is so, any two reported decodes of one code and shot agree as demand 3 says, a kind 8 that
---              agrees is as if it had not come, and the candidates of a finished half show each class once
+--              agrees is as if it had not come, the candidates of a finished half show each class once, and a read of the window counts the last 256 reports
 use mathlib.Core.Path.{_≡_}
 use mathlib.Core.Bool.{true, false}
 use mathlib.Core.Logic.{_⊎_}
-use mathlib.Core.List.{_++_}
+use mathlib.Core.List.{[], _++_}
 use Prim.Native.Nat.{ℕ, _≤_}
 use Rattle.binary.specs.Meaning.{All}
 use Rattle.machine.specs.declared.Word.the-variants.{None}
-use Rattle.machine.specs.declared.HalfReport.{HalfReport}
 use Rattle.machine.specs.Words.{finished?}
 use Rattle.machine.specs.Machine.{Half, isOpen}
 use Rattle.machine.specs.Report.{Shown, shown}
@@ -19,31 +18,29 @@ use Rattle.machine.specs.Unread.{before}
 use Rattle.machine.specs.OneWord.{OneWord}
 use Rattle.machine.specs.Demands.{Verdict, Counted, Fillings, Classes, Reach}
 use Rattle.records.specs.declared.Report.{Report}
+use Rattle.records.specs.declared.WindowAnswer.{WindowAnswer}
 use Rattle.records.specs.declared.Answer.the-variants.{Taken, Decoded}
 use Rattle.records.specs.Records.{Pauli, X, Z, report, encodes, recordOf}
 use Rattle.records.specs.History.{Code, Shot, History, ready, half}
 use Rattle.records.specs.Lowest.{Numbered}
 use Rattle.records.specs.Table.{refusalNumber}
-use Rattle.records.specs.Lists.{Lists, Six, Represents}
-use Rattle.records.specs.Promise.{refusalAt, testsAt, answerOf, Left, Written, Unworked}
-use Rattle.claim.specs.Calls.{Step, lent, Call, step, stateLeft, listsLeft, Run, makes, Place, at, begins, stateAfter, Read}
+use Rattle.records.specs.Lists.{Six, Represents}
+use Rattle.records.specs.Promise.{refusalAt, testsAt, answerOf, Left, Written, Unworked, WindowLeft}
+use Rattle.claim.specs.Calls.{Passed, Step, lent, Call, step, look, stateLeft, listsLeft, Run, makes, Place, at, begins, stateAfter, Read}
+use Rattle.claim.specs.Window.{reportsBy, reportsOf, reportFor, ReadOf, KeptIn}
 use Rattle.claim.specs.Candidates.{ClassesShown}
 
 ----------------------------------------------------------------------
 -- One call
 
 -- Demand 1. The answer is the record's own or the refusal with the first number that fits, the lowest of those whose tests pass; every list is left
--- as document 01 says: l are the lists of code and shot at the start, l′ before this call.
-pub record Told (a : History) (l l′ : Lists) (k : Step) : Type 0 where
+-- as document 01 says: l are the lists that pass from call to call at the start, l′ before this call.
+pub record Told (a : History) (l l′ : Passed) (k : Step) : Type 0 where
   pub number : Numbered refusalNumber (testsAt (recordOf (k .bytes)) a (lent l k)) (refusalAt (recordOf (k .bytes)) a (lent l k))
   pub answer : k .reply .answer ≡ answerOf (refusalAt (recordOf (k .bytes)) a (lent l k)) (recordOf (k .bytes)) a
-  pub lists : Left (refusalAt (recordOf (k .bytes)) a (lent l k)) (recordOf (k .bytes)) a l′ (k .left .lists)
+  pub lists : Left (refusalAt (recordOf (k .bytes)) a (lent l k)) (recordOf (k .bytes)) a (l′ .lists) (k .left .lists)
   pub six : Written (refusalAt (recordOf (k .bytes)) a (lent l k)) (recordOf (k .bytes)) a (k .six) (k .left .six)
   pub work : Unworked (refusalAt (recordOf (k .bytes)) a (lent l k)) (recordOf (k .bytes)) (k .work) (k .left .work)
-
-abbrev pub reportFor : Pauli → Report → HalfReport
-reportFor X r = r .x
-reportFor Z r = r .z
 
 abbrev pub listsFor : Pauli → Six → HalfLists
 listsFor X s = s .x
@@ -81,7 +78,7 @@ pub record Claim : Type 0 where
   pub told : (k : Step) (p : Place (step k)) → Told (at p) (p .lists) (begins (p .lists) (p .before)) k
   -- Each call leaves state and lists that hold the code and shot that it makes, the last call of a list too.
   pub leaves : (k : Call) (p : Place k)
-      → Represents (makes (p .lists) (at p) k) (stateLeft (stateAfter (p .state) (p .before)) k) (listsLeft (begins (p .lists) (p .before)) k)
+      → Represents (makes (p .lists) (at p) k) (stateLeft (stateAfter (p .state) (p .before)) k) (listsLeft (begins (p .lists) (p .before)) k .lists)
   -- Each half that a decode reports is right: its verdict, its counts, its fillings and its classes.
   pub right : (k : Step) (p : Place (step k)) (c : Code) (s : Shot) (budget limit : ℕ) (r : Report) → Reported (at p) k c s budget limit r
       → (b : Pauli) → HalfRight (half b c s) budget limit (shows b c r k)
@@ -105,3 +102,13 @@ pub record Claim : Type 0 where
   pub candidates : (k : Step) (p : Place (step k)) (c : Code) (s : Shot) (budget limit : ℕ) (r : Report) → Reported (at p) k c s budget limit r
       → (b : Pauli) → finished? (reportFor b r .word) ≡ true → reportFor b r .live ≤ 8
       → ClassesShown (half b c s) (reportFor b r) (listsFor b (k .left .six))
+  -- Both halves of a decode that is reported enter the window, an accepted kind 1 empties it, and nothing else changes it: not a dropped code, not a refused
+  -- record, not a read. Each call leaves a number of reports and a list that hold the last 256 of those told from the calls.
+  pub entered : (k : Step) (p : Place (step k))
+      → WindowLeft (recordOf (k .bytes)) (stateAfter (p .state) (p .before)) (begins (p .lists) (p .before) .window) (k .left .window) (k .reply .answer)
+  pub kept : (k : Call) (p : Place k)
+      → KeptIn (reportsBy (reportsOf [] (p .before)) k) (stateLeft (stateAfter (p .state) (p .before)) k .reports) (listsLeft (begins (p .lists) (p .before)) k .window)
+  -- The answer to a read equals a fresh count over the last 256 reports since the last accepted kind 1, or over all of these if there were fewer; with the
+  -- list short it is refused with 12. The calls without the read are a run too.
+  pub window : (a : WindowAnswer) (p : Place (look a))
+      → ReadOf (p .lists .window) (reportsOf [] (p .before)) a × Run (p .state) (p .lists) (p .before ++ p .after)

@@ -1,3 +1,4 @@
 pub mod Calls
+pub mod Window
 pub mod Candidates
 pub mod Claim

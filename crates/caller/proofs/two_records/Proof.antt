@@ -6,14 +6,14 @@ use Rattle.caller.proofs.two_records.Statement.{statement}
 use Rattle.caller.proofs.two_records.Tie as tie
 
 -- The call for the second record, the call for the first, and the fresh start.
-abbrev second : tie.After-slice-known30 → tie.After-step2
-second c = c .before .before .before .before .before .before .before .before .before .before .before .before .before .before .before .before .before .before .before .before
+abbrev second : tie.After-slice-known33 → tie.After-step2
+second c = c .before .before .before .before .before .before .before .before .before .before .before .before .before .before .before .before .before .before .before .before .before .before
 
-abbrev first : tie.After-slice-known30 → tie.After-step
-first c = second c .before .before .before .before .before .before .before .before .before .before .before .before .before .before .before .before .before .before .before .before .before .before .before .before .before .before .before .before .before .before .before .before
+abbrev first : tie.After-slice-known33 → tie.After-step
+first c = second c .before .before .before .before .before .before .before .before .before .before .before .before .before .before .before .before .before .before .before .before .before .before .before .before .before .before .before .before .before .before .before .before .before .before .before
 
-abbrev start : tie.After-slice-known30 → tie.After-fresh
-start c = first c .before .before .before .before .before .before .before .before .before .before .before
+abbrev start : tie.After-slice-known33 → tie.After-fresh
+start c = first c .before .before .before .before .before .before .before .before .before .before .before .before
 
 fresh-requires : tie.Need-fresh-requires
 fresh-requires c κs = search needs
@@ -34,25 +34,28 @@ same-length-3 : tie.Need-same-length-3
 same-length-3 c = second c .step2 .ensures .lengths .shot ∙ first c .step .ensures .lengths .shot
 
 same-length-4 : tie.Need-same-length-4
-same-length-4 c = second c .step2 .ensures .lengths .work ∙ first c .step .ensures .lengths .work
+same-length-4 c = second c .step2 .ensures .lengths .window ∙ first c .step .ensures .lengths .window
 
 same-length-5 : tie.Need-same-length-5
-same-length-5 c = second c .step2 .ensures .lengths .x .marks ∙ first c .step .ensures .lengths .x .marks
+same-length-5 c = second c .step2 .ensures .lengths .work ∙ first c .step .ensures .lengths .work
 
 same-length-6 : tie.Need-same-length-6
-same-length-6 c = second c .step2 .ensures .lengths .x .forms ∙ first c .step .ensures .lengths .x .forms
+same-length-6 c = second c .step2 .ensures .lengths .x .marks ∙ first c .step .ensures .lengths .x .marks
 
 same-length-7 : tie.Need-same-length-7
-same-length-7 c = second c .step2 .ensures .lengths .x .correction ∙ first c .step .ensures .lengths .x .correction
+same-length-7 c = second c .step2 .ensures .lengths .x .forms ∙ first c .step .ensures .lengths .x .forms
 
 same-length-8 : tie.Need-same-length-8
-same-length-8 c = second c .step2 .ensures .lengths .z .marks ∙ first c .step .ensures .lengths .z .marks
+same-length-8 c = second c .step2 .ensures .lengths .x .correction ∙ first c .step .ensures .lengths .x .correction
 
 same-length-9 : tie.Need-same-length-9
-same-length-9 c = second c .step2 .ensures .lengths .z .forms ∙ first c .step .ensures .lengths .z .forms
+same-length-9 c = second c .step2 .ensures .lengths .z .marks ∙ first c .step .ensures .lengths .z .marks
 
 same-length-10 : tie.Need-same-length-10
-same-length-10 c = second c .step2 .ensures .lengths .z .correction ∙ first c .step .ensures .lengths .z .correction
+same-length-10 c = second c .step2 .ensures .lengths .z .forms ∙ first c .step .ensures .lengths .z .forms
+
+same-length-11 : tie.Need-same-length-11
+same-length-11 c = second c .step2 .ensures .lengths .z .correction ∙ first c .step .ensures .lengths .z .correction
 
 returns : tie.Need-returns
 returns c = two-records _ _ _ _ _ _ _ _ (start c .fresh .ensures) (first c .step .ensures) (second c .step2 .ensures)
@@ -74,4 +77,5 @@ two-records-spec =
     same-length-8
     same-length-9
     same-length-10
+    same-length-11
     returns)
