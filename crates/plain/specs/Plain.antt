@@ -21,6 +21,7 @@ use Rattle.records.specs.declared.CandidateAnswer.{CandidateAnswer}
 use Rattle.records.specs.declared.CandidateAnswer.the-variants.{Given}
 use Rattle.records.specs.Table.{refusalNumber}
 use Rattle.records.specs.Candidates.{candidateNumber}
+use Rattle.records.specs.Window.{wordNumber}
 use Rattle.plain.specs.declared.RackState.{RackState}
 use Rattle.plain.specs.declared.RackHalf.{RackHalf}
 use Rattle.plain.specs.declared.RackReply.{RackReply}
@@ -52,6 +53,7 @@ stateOf s =
       clash = flagOf (s .clash);
       spoiled = flagOf (s .spoiled);
       stale = flagOf (s .stale);
+      reports = s .reports;
     }
 
 abbrev pub plainState : State → RackState
@@ -65,17 +67,11 @@ plainState s =
       x = s .sizes .x;
       z = s .sizes .z;
       rows = s .rows;
+      reports = s .reports;
     }
 
 ----------------------------------------------------------------------
 -- Replies
-
-abbrev pub wordNumber : Word → ℕ
-wordNumber Certain = 1
-wordNumber Unsure = 2
-wordNumber None = 3
-wordNumber Spent = 4
-wordNumber Stopped = 5
 
 -- Any other number is an unfinished half's.
 abbrev pub wordOf : ℕ → Word

@@ -1,7 +1,9 @@
 // States and replies as plain numbers, for a rack's own program in C or Rust.
+pub mod counts;
+
 ghost use mathlib.Core.Path.{_≡_};
 ghost use Rattle.records.specs.Candidates.{candidateNumber};
-ghost use Rattle.plain.specs.Plain.{phaseOf, phaseNumber, stateOf, plainState, wordNumber, wordOf, plainHalf, noHalf, unreported, plainAnswer, plainReply, plainCandidate};
+ghost use Rattle.plain.specs.Plain.{phaseOf, phaseNumber, stateOf, plainState, wordOf, plainHalf, noHalf, unreported, plainAnswer, plainReply, plainCandidate};
 use machine::HalfReport;
 use machine::Word;
 use records::Answer;
@@ -24,6 +26,7 @@ pub struct RackState {
     pub x: u16,
     pub z: u16,
     pub rows: u16,
+    pub reports: u16,
 }
 
 // What is reported of a half; of an answer that is no report, zeros.
@@ -70,19 +73,6 @@ fn phase_number(p: Phase) -> u8
     }
 }
 
-// A word's number; 0 is no word.
-fn word_number(w: Word) -> u16
-    ensures { λ r. ⌜ r ≡ wordNumber w ⌝ }
-{
-    match w {
-        Word::Certain => 1,
-        Word::Unsure => 2,
-        Word::None => 3,
-        Word::Spent => 4,
-        Word::Stopped => 5,
-    }
-}
-
 // The word that a number stands for; any other number is an unfinished half's, stopped.
 pub fn word_of(w: u16) -> Word
     ensures { λ r. ⌜ r ≡ wordOf w ⌝ }
@@ -117,6 +107,7 @@ pub fn state_of(s: RackState) -> State
         clash: s.clash != 0,
         spoiled: s.spoiled != 0,
         stale: s.stale != 0,
+        reports: s.reports,
     }
 }
 
@@ -135,6 +126,7 @@ pub fn state(s: State) -> RackState
         x: sizes.x,
         z: sizes.z,
         rows: s.rows,
+        reports: s.reports,
     }
 }
 
@@ -144,7 +136,7 @@ fn half(h: HalfReport) -> RackHalf
 {
     let word = h.word;
     RackHalf {
-        word: word_number(word),
+        word: rules::word_number(word),
         fixed: h.fixed,
         turns: h.turns,
         guesses: h.guesses,

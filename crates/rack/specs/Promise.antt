@@ -3,6 +3,7 @@
 --   RackPromise   the promise of `rack_step`: that of `stream::step`, in plain numbers
 --   RackGives     the promise of `rack_candidate`: that of `candidates::give`, in plain numbers
 --   RackGivesLaw  of a half that is reported it is the promise for its own word
+--   rackWindow    the answer of `rack_window`: that of `window::read`, in plain numbers
 use mathlib.Core.Path.{_≡_}
 use mathlib.Core.List.{List}
 use Prim.Native.Nat.{ℕ}
@@ -12,12 +13,15 @@ use Rattle.records.specs.declared.CandidateAnswer.{CandidateAnswer}
 use Rattle.records.specs.Lists.{Lent}
 use Rattle.records.specs.Promise.{Promise}
 use Rattle.records.specs.Candidates.{Gives}
+use Rattle.records.specs.Window.{windowAnswer}
 use Rattle.plain.specs.declared.RackState.{RackState}
 use Rattle.plain.specs.declared.RackReply.{RackReply}
+use Rattle.plain.specs.declared.counts.RackCounts.{RackCounts}
 use Rattle.plain.specs.Plain.{stateOf, plainReply, wordOf, plainHalf, plainCandidate}
+use Rattle.plain.specs.Counts.{plainWindow}
 
 abbrev pub version : ℕ
-version = 6
+version = 7
 
 -- The numbers of a reply that `stream::step` promises at the state that the numbers given stand for.
 pub record RackPromise (s : RackState) (bytes : List ℕ) (old new : Lent) (r : RackReply) : Type 0 where
@@ -38,3 +42,7 @@ RackGivesLaw =
     → RackGives n (plainHalf h .word) (plainHalf h .live) marks forms number old new r
     → (a : CandidateAnswer) × Gives (record { n = n; word = h .word; live = h .live; marks = marks; forms = forms; number = number }) old new a
     × (r ≡ plainCandidate a)
+
+-- The state counts its reports by the same number.
+abbrev pub rackWindow : RackState → List ℕ → RackCounts
+rackWindow s window = plainWindow (windowAnswer (s .reports) window)

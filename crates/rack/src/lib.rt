@@ -3,9 +3,10 @@ ghost use mathlib.Core.Path.{_≡_};
 ghost use Rattle.records.specs.Lists.{held, sixOf, lentOf};
 ghost use Rattle.records.specs.States.{freshState};
 ghost use Rattle.plain.specs.Plain.{plainState};
-ghost use Rattle.rack.specs.Promise.{version, RackPromise, RackGives};
+ghost use Rattle.rack.specs.Promise.{version, RackPromise, RackGives, rackWindow};
 use plain::RackReply;
 use plain::RackState;
+use plain::counts::RackCounts;
 
 // The library's version; the header's RACK_VERSION has to be the same.
 #[no_mangle]
@@ -30,6 +31,7 @@ pub extern "C" fn rack_step(
     flat: &mut [u16],
     ends: &mut [u16],
     shot: &mut [u8],
+    window: &mut [u16],
     work: &mut [u64],
     x_marks: &mut [u8],
     x_forms: &mut [u64],
@@ -39,13 +41,14 @@ pub extern "C" fn rack_step(
     z_correction: &mut [u8],
     bytes: &[u8],
 ) -> RackReply
-    ensures { λ r. ⌜ RackPromise state (now (bytes .entry)) (lentOf (held (now (flat .entry)) (now (ends .entry)) (now (shot .entry))) (now (work .entry)) (sixOf (now («x_marks» .entry)) (now («x_forms» .entry)) (now («x_correction» .entry)) (now («z_marks» .entry)) (now («z_forms» .entry)) (now («z_correction» .entry)))) (lentOf (held (now (flat .exit)) (now (ends .exit)) (now (shot .exit))) (now (work .exit)) (sixOf (now («x_marks» .exit)) (now («x_forms» .exit)) (now («x_correction» .exit)) (now («z_marks» .exit)) (now («z_forms» .exit)) (now («z_correction» .exit)))) r ⌝ }
+    ensures { λ r. ⌜ RackPromise state (now (bytes .entry)) (lentOf (held (now (flat .entry)) (now (ends .entry)) (now (shot .entry))) (now (window .entry)) (now (work .entry)) (sixOf (now («x_marks» .entry)) (now («x_forms» .entry)) (now («x_correction» .entry)) (now («z_marks» .entry)) (now («z_forms» .entry)) (now («z_correction» .entry)))) (lentOf (held (now (flat .exit)) (now (ends .exit)) (now (shot .exit))) (now (window .exit)) (now (work .exit)) (sixOf (now («x_marks» .exit)) (now («x_forms» .exit)) (now («x_correction» .exit)) (now («z_marks» .exit)) (now («z_forms» .exit)) (now («z_correction» .exit)))) r ⌝ }
 {
     let reply = stream::step(
         plain::state_of(state),
         flat,
         ends,
         shot,
+        window,
         work,
         x_marks,
         x_forms,
@@ -73,4 +76,13 @@ pub extern "C" fn rack_candidate(
 {
     let said = plain::word_of(word);
     plain::candidate(candidates::give(n, said, live, marks, forms, number, candidate))
+}
+
+// The last 256 reports counted: `window::read` at the state that the numbers stand for.
+#[no_mangle]
+pub extern "C" fn rack_window(state: RackState, window: &[u16]) -> RackCounts
+    ensures { λ r. ⌜ r ≡ rackWindow state (now (window .entry)) ⌝ }
+{
+    let read = window::read(plain::state_of(state), window);
+    plain::counts::window(read)
 }

@@ -1,0 +1,16 @@
+-- `plain::counts::window_refusal` meets its contract. Assumes nothing.
+use mathlib.Core.Path.{_≡_, refl}
+use Rattle.records.specs.declared.WindowRefusal.{WindowRefusal}
+use Rattle.records.specs.declared.WindowRefusal.the-variants.{Short}
+use Rattle.records.specs.Window.{windowNumber}
+use Rattle.plain.proofs.counts.window_refusal.Statement.{statement}
+use Rattle.plain.proofs.counts.window_refusal.Tie as tie
+
+number : (w : WindowRefusal) → 12 ≡ windowNumber w
+number Short = refl
+
+returns : tie.Need-returns
+returns c = number (c .args .why)
+
+pub window-refusal-spec : {M : Type 1} → statement M
+window-refusal-spec = tie.close (tie.spec returns)
