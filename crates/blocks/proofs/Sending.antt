@@ -6,8 +6,7 @@ use Prim.Native.Nat.{ℕ, _+_, _-_, _<_}
 use native.Mathlib.Nat.{sub-zero}
 use native.Mathlib.Omega.{arith}
 use lib.ListN.{length, take, drop, getD}
-use Rattle.records.specs.Lists.{Lists}
-use Rattle.claim.specs.Calls.{Step}
+use Rattle.claim.specs.Calls.{Passed, Step}
 use Rattle.output.specs.declared.Output.{Output}
 use Rattle.output.specs.Writing.{Flush, Flushed}
 use Rattle.output.proofs.Joining.{flushed-none, flushed-join}
@@ -49,7 +48,7 @@ pub parts : {o r : Output} (put noted : ℕ) (out places : List ℕ) → Flush o
 parts put noted out places f = simp sub-zero at f
 
 -- A buffer's records.
-pub buffer-sent : (e : Bool) (p q : Progress) (o : Output) (l k : Lists) (block out places : List ℕ) (r : Block) → Filled e p l k block out places q → Emptied e q o block out places r → Sent e (standOf p l block) o (stand r k block) (r .output)
+pub buffer-sent : (e : Bool) (p q : Progress) (o : Output) (l k : Passed) (block out places : List ℕ) (r : Block) → Filled e p l k block out places q → Emptied e q o block out places r → Sent e (standOf p l block) o (stand r k block) (r .output)
 buffer-sent e p q o l k block out places r f m =
     let t = f .took in
     rw (m .state, m .tally, m .taken, m .over) (record { calls = t .calls; takes = t .takes; written = rw (t .text, t .ends) at (m .written .flushed) })
@@ -65,7 +64,7 @@ pub goes-on : (full : Bool) (n m : ℕ) → full ≡ false → n ≡ m → 0 < n
 goes-on full n m f e h = rw f (omega arith)
 
 -- A buffer's records of a block.
-module _ (e : Bool) (b : Block) (q : Progress) (l k : Lists) (block out places old ends : List ℕ) (r : Block) (p : Begins e b block (length old) (length ends)) (f : Filled e (beginOf (b .state) (b .tally) (b .taken) e block (length old) (length ends)) l k block out places q) (m : Emptied e q (b .output) block out places r) where
+module _ (e : Bool) (b : Block) (q : Progress) (l k : Passed) (block out places old ends : List ℕ) (r : Block) (p : Begins e b block (length old) (length ends)) (f : Filled e (beginOf (b .state) (b .tally) (b .taken) e block (length old) (length ends)) l k block out places q) (m : Emptied e q (b .output) block out places r) where
   pub buffer-went : Went e b l k block r
   buffer-went =
       record {

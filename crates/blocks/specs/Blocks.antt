@@ -12,8 +12,7 @@ use mathlib.Core.List.{List}
 use Prim.Native.Nat.{ℕ, _≤_, _<_}
 use lib.ListN.{length, take, drop}
 use Rattle.records.specs.declared.State.{State}
-use Rattle.records.specs.Lists.{Lists}
-use Rattle.claim.specs.Calls.{Step}
+use Rattle.claim.specs.Calls.{Passed, Step}
 use Rattle.counts.specs.declared.Tally.{Tally}
 use Rattle.output.specs.declared.Output.{Output}
 use Rattle.output.specs.Writing.{Flush, Flushed}
@@ -28,10 +27,10 @@ pub record Sent (ended : Bool) (w : Stand) (o : Output) (v : Stand) (p : Output)
   pub takes : Takes ended w calls v
   pub written : Flushed o (linesAll calls) (placesFrom 0 calls) p
 
-abbrev pub begun : State → Tally → Lists → List ℕ → Stand
+abbrev pub begun : State → Tally → Passed → List ℕ → Stand
 begun st tally l block = record { state = st; lists = l; tally = tally; over = false; rest = block }
 
-abbrev pub stand : Block → Lists → List ℕ → Stand
+abbrev pub stand : Block → Passed → List ℕ → Stand
 stand b l block = record { state = b .state; lists = l; tally = b .tally; over = b .over; rest = drop (b .taken) block }
 
 pub record Emptied (ended : Bool) (p : Progress) (o : Output) (block out places : List ℕ) (r : Block) : Type 0 where
@@ -48,13 +47,13 @@ pub record Begins (ended : Bool) (b : Block) (block : List ℕ) (long most : ℕ
   pub goes : b .over ≡ false
   pub room : isFull 0 long 0 most ≡ false
 
-pub record Went (ended : Bool) (b : Block) (l k : Lists) (block : List ℕ) (r : Block) : Type 0 where
+pub record Went (ended : Bool) (b : Block) (l k : Passed) (block : List ℕ) (r : Block) : Type 0 where
   pub sent : Sent ended (stand b l block) (b .output) (stand r k block) (r .output)
   pub more : b .taken < r .taken
   pub within : r .taken ≤ length block
   pub next : r .next ≡ cond (r .output .failed || r .over) 0 (nextOf ended (drop (r .taken) block))
 
-pub record Done (ended full : Bool) (w : Stand) (o : Output) (k : Lists) (block : List ℕ) (r : Block) : Type 0 where
+pub record Done (ended full : Bool) (w : Stand) (o : Output) (k : Passed) (block : List ℕ) (r : Block) : Type 0 where
   pub sent : Sent ended w o (stand r k block) (r .output)
   pub within : r .taken ≤ length block
   pub left : full ≡ false → r .output .failed ≡ false → r .over ≡ false → nextOf ended (drop (r .taken) block) ≡ 0

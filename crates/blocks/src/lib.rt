@@ -6,7 +6,7 @@ use taking::Progress;
 ghost use mathlib.Core.Bool.{false};
 ghost use Prim.Native.Nat.{_≤_};
 ghost use lib.ListN.{length};
-ghost use Rattle.records.specs.Lists.{held};
+ghost use Rattle.claim.specs.Calls.{passed};
 ghost use Rattle.cutting.specs.Room.{isFull};
 ghost use Rattle.blocks.specs.Blocks.{begun, Emptied, Begins, Went, Done};
 
@@ -55,12 +55,13 @@ fn one_buffer(
     flat: &mut [u16],
     ends: &mut [u16],
     shot: &mut [u8],
+    window: &mut [u16],
     block: &[u8],
     out: &mut [u8],
     places: &mut [usize],
 ) -> Block
     requires { ⌜ Begins ended b (now block) (length (now out)) (length (now places)) ⌝ }
-    ensures { λ r. ⌜ Went ended b (held (now (flat .entry)) (now (ends .entry)) (now (shot .entry))) (held (now (flat .exit)) (now (ends .exit)) (now (shot .exit))) (now (block .entry)) r ⌝ }
+    ensures { λ r. ⌜ Went ended b (passed (now (flat .entry)) (now (ends .entry)) (now (shot .entry)) (now (window .entry))) (passed (now (flat .exit)) (now (ends .exit)) (now (shot .exit)) (now (window .exit))) (now (block .entry)) r ⌝ }
 {
     let state = b.state;
     let tally = b.tally;
@@ -72,6 +73,7 @@ fn one_buffer(
         flat,
         ends,
         shot,
+        window,
         block,
         out,
         places,
@@ -90,11 +92,12 @@ pub fn one_block(
     flat: &mut [u16],
     ends: &mut [u16],
     shot: &mut [u8],
+    window: &mut [u16],
     block: &[u8],
     out: &mut [u8],
     places: &mut [usize],
 ) -> Block
-    ensures { λ r. ⌜ Done ended (isFull 0 (length (now (out .entry))) 0 (length (now (places .entry)))) (begun st tally (held (now (flat .entry)) (now (ends .entry)) (now (shot .entry))) (now (block .entry))) output (held (now (flat .exit)) (now (ends .exit)) (now (shot .exit))) (now (block .entry)) r ⌝ }
+    ensures { λ r. ⌜ Done ended (isFull 0 (length (now (out .entry))) 0 (length (now (places .entry)))) (begun st tally (passed (now (flat .entry)) (now (ends .entry)) (now (shot .entry)) (now (window .entry))) (now (block .entry))) output (passed (now (flat .exit)) (now (ends .exit)) (now (shot .exit)) (now (window .exit))) (now (block .entry)) r ⌝ }
 {
     let full = cutting::is_full(0, out.len(), 0, places.len());
     let mut b = Block {
@@ -106,7 +109,7 @@ pub fn one_block(
         output: output,
     };
     while b.next > 0 {
-        b = one_buffer(b, ended, flat, ends, shot, block, out, places);
+        b = one_buffer(b, ended, flat, ends, shot, window, block, out, places);
     }
     b
 }

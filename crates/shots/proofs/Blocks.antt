@@ -12,8 +12,8 @@ use lib.ListN.{length, length-drop, take, drop, getD}
 use lib.Seq.{take-add, take-at, drop-at, length-take-le}
 use Rattle.records.specs.Records.{Kind, kindOf, wholeLength}
 use Rattle.records.specs.declared.State.{State}
-use Rattle.records.specs.Lists.{Lists}
 use Rattle.records.specs.States.{freshState}
+use Rattle.claim.specs.Calls.{Passed}
 use Rattle.counts.specs.declared.Tally.{Tally}
 use Rattle.output.specs.declared.Output.{Output}
 use Rattle.input.specs.declared.Refilled.{Refilled}
@@ -31,7 +31,7 @@ drop-take n k l h =
     rw (take-add n k l) (drop-at (take n l) (take k (drop n l)) n (length-take-le n l h))
 
 -- A turn: the records of the block are taken, and what is left is moved to its front.
-module _ (t : Turn) (l k : Lists) (old new : List ℕ) (f : Refilled) (full : Bool) (b : Block) (h : ℕ) (fits : f .end ≤ length old) (last : t .last ≡ false) (d : Done (f .ended) full (begun (t .state) (t .tally) l (take (f .end) old)) (t .output) k (take (f .end) old) b) (m : Keeps old new (b .taken) (f .end) h) where
+module _ (t : Turn) (l k : Passed) (old new : List ℕ) (f : Refilled) (full : Bool) (b : Block) (h : ℕ) (fits : f .end ≤ length old) (last : t .last ≡ false) (d : Done (f .ended) full (begun (t .state) (t .tally) l (take (f .end) old)) (t .output) k (take (f .end) old) b) (m : Keeps old new (b .taken) (f .end) h) where
   taken-within : b .taken ≤ f .end
   taken-within = omega (arith, d .within, length-take-le (f .end) old fits)
 
@@ -59,7 +59,7 @@ module _ (t : Turn) (l k : Lists) (old new : List ℕ) (f : Refilled) (full : Bo
       record { sent = turn-sent; held = omega (arith, same, moved .0); over = e; left = turn-left }
 
 -- The block is handed on by its first bytes.
-pub whole-part : (e full : Bool) (st : State) (tally : Tally) (l k : Lists) (mid : List ℕ) (n : ℕ) (o : Output) (b : Block) → Done e full (begun st tally l (take (n - 0) (drop 0 mid))) o k (take (n - 0) (drop 0 mid)) b → Done e full (begun st tally l (take n mid)) o k (take n mid) b
+pub whole-part : (e full : Bool) (st : State) (tally : Tally) (l k : Passed) (mid : List ℕ) (n : ℕ) (o : Output) (b : Block) → Done e full (begun st tally l (take (n - 0) (drop 0 mid))) o k (take (n - 0) (drop 0 mid)) b → Done e full (begun st tally l (take n mid)) o k (take n mid) b
 whole-part e full st tally l k mid n o b d = rw (sub-zero n) at d
 
 ----------------------------------------------------------------------
@@ -77,7 +77,7 @@ rest-none l e =
     (λ p. omega (arith, next-cut true l (omega arith)))
     (eq-zero-or-pos (wholeOf l - length l))
 
-pub record Runs (full : Bool) (l k : Lists) (block : List ℕ) (t : Turn) : Type 0 where
+pub record Runs (full : Bool) (l k : Passed) (block : List ℕ) (t : Turn) : Type 0 where
   pub input : List ℕ
   pub ended : Bool
   pub sent : Sent ended (begun freshState noTally l input) noOutput (standing t k (take (t .held) block)) (t .output)
@@ -91,7 +91,7 @@ none-over true b c e = let z : _≡_ {A = ℕ} 0 1 = cc in absurd (omega arith)
 none-over false true c e = let z : _≡_ {A = ℕ} 0 1 = cc in absurd (omega arith)
 none-over false false true e = let z : _≡_ {A = ℕ} 0 1 = cc in absurd (omega arith)
 
-pub runs-none : (full : Bool) (l : Lists) (block : List ℕ) (st : State) (x : ℤ) → st ≡ freshState → Runs full l l block (record { state = st; tally = noTally; held = 0; output = noOutput; last = false; over = false; error = x })
+pub runs-none : (full : Bool) (l : Passed) (block : List ℕ) (st : State) (x : ℤ) → st ≡ freshState → Runs full l l block (record { state = st; tally = noTally; held = 0; output = noOutput; last = false; over = false; error = x })
 runs-none full l block st x e =
     record { input = []; ended = false; sent = rw e (sent-none false (begun freshState noTally l []) noOutput (omega arith) (omega arith)); goes = λ z. (refl, refl); held = omega arith; left = λ z. let y : _≡_ {A = ℕ} 0 1 = cc in absurd (omega arith) }
 
@@ -101,7 +101,7 @@ input-more old mid held f q =
     let e : held + (f .end - held) ≡ f .end = omega (arith, q .more) in
     rw (sym (q .stays)) (sym (rw e at (take-add held (f .end - held) mid)))
 
-pub runs-more : (full : Bool) (l k j : Lists) (block mid new : List ℕ) (t r : Turn) (f : Refilled) → Runs full l k block t → t .over ≡ false → Refills block mid (t .held) f → Turned full t f k mid j new r → Runs full l j new r
+pub runs-more : (full : Bool) (l k j : Passed) (block mid new : List ℕ) (t r : Turn) (f : Refilled) → Runs full l k block t → t .over ≡ false → Refills block mid (t .held) f → Turned full t f k mid j new r → Runs full l j new r
 runs-more full l k j block mid new t r f s o q u =
     let z : Sent (f .ended) (standing t k (take (t .held) block ++ take (f .end - t .held) (drop (t .held) mid))) (t .output) (standing r j (take (r .held) new)) (r .output) = rw (input-more block mid (t .held) f q) (u .sent) in
     record {
@@ -113,6 +113,6 @@ runs-more full l k j block mid new t r f s o q u =
       left = λ e. u .left;
     }
 
-pub runs-ran : (full : Bool) (l k : Lists) (block : List ℕ) (t : Turn) → Runs full l k block t → Ran full l k t
+pub runs-ran : (full : Bool) (l k : Passed) (block : List ℕ) (t : Turn) → Runs full l k block t → Ran full l k t
 runs-ran full l k block t s =
     record { input = s .input; rest = take (t .held) block; ended = s .ended; sent = s .sent; left = λ e x y z. rest-none (take (t .held) block) (rw e at (s .left e x y z)) }

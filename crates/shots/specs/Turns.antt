@@ -9,8 +9,8 @@ use mathlib.Core.Bool.{Bool, true, false, _||_}
 use mathlib.Core.List.{List}
 use Prim.Native.Nat.{ℕ, _≤_}
 use lib.ListN.{length, take}
-use Rattle.records.specs.Lists.{Lists}
 use Rattle.records.specs.States.{freshState}
+use Rattle.claim.specs.Calls.{Passed}
 use Rattle.counts.specs.declared.Tally.{Tally}
 use Rattle.input.specs.declared.Refilled.{Refilled}
 use Rattle.output.specs.declared.Output.{Output}
@@ -25,16 +25,16 @@ noTally = record { bytes = 0; records = 0; codes = 0; decodes = 0; refusals = 0;
 abbrev pub noOutput : Output
 noOutput = record { bytes = 0; records = 0; failed = false }
 
-abbrev pub standing : Turn → Lists → List ℕ → Stand
+abbrev pub standing : Turn → Passed → List ℕ → Stand
 standing t l rest = record { state = t .state; lists = l; tally = t .tally; over = t .last; rest = rest }
 
-pub record Turned (full : Bool) (t : Turn) (f : Refilled) (l : Lists) (old : List ℕ) (k : Lists) (new : List ℕ) (r : Turn) : Type 0 where
+pub record Turned (full : Bool) (t : Turn) (f : Refilled) (l : Passed) (old : List ℕ) (k : Passed) (new : List ℕ) (r : Turn) : Type 0 where
   pub sent : Sent (f .ended) (standing t l (take (f .end) old)) (t .output) (standing r k (take (r .held) new)) (r .output)
   pub held : r .held ≤ length new
   pub over : r .over ≡ r .output .failed || r .last || f .ended
   pub left : full ≡ false → r .output .failed ≡ false → r .last ≡ false → nextOf (f .ended) (take (r .held) new) ≡ 0
 
-pub record Ran (full : Bool) (l k : Lists) (r : Turn) : Type 0 where
+pub record Ran (full : Bool) (l k : Passed) (r : Turn) : Type 0 where
   pub input : List ℕ
   pub rest : List ℕ
   pub ended : Bool

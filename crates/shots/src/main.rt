@@ -2,12 +2,13 @@
 mod arguments;
 mod run;
 
-// The lists of code and shot at their least lengths, the blocks in which the program reads and writes, and places for the records that a
+// The lists of code, shot and window at their least lengths, the blocks in which the program reads and writes, and places for the records that a
 // block of output answers.
 fn read_records() {
     let mut flat = [0u16; 16384];
     let mut ends = [0u16; 1024];
     let mut shot = [0u8; 2048];
+    let mut window = [0u16; 2560];
     let mut input = io::large_buffer();
     let mut out = io::large_buffer();
     let mut places = [0usize; 16384];
@@ -15,6 +16,7 @@ fn read_records() {
         &mut flat,
         &mut ends,
         &mut shot,
+        &mut window,
         &mut input,
         &mut out,
         &mut places,

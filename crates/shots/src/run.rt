@@ -7,7 +7,7 @@ ghost use mathlib.Core.Path.{_≡_};
 ghost use mathlib.Core.Bool.{false};
 ghost use Prim.Native.Nat.{_≤_};
 ghost use lib.ListN.{length};
-ghost use Rattle.records.specs.Lists.{held};
+ghost use Rattle.claim.specs.Calls.{passed};
 ghost use Rattle.cutting.specs.Room.{isFull};
 ghost use Rattle.shots.specs.Turns.{Turned, Ran};
 
@@ -30,12 +30,13 @@ fn one_turn(
     flat: &mut [u16],
     ends: &mut [u16],
     shot: &mut [u8],
+    window: &mut [u16],
     block: &mut [u8],
     out: &mut [u8],
     places: &mut [usize],
 ) -> Turn
     requires { ⌜ (read .end ≤ length (now block)) × (t .last ≡ false) ⌝ }
-    ensures { λ r. ⌜ Turned (isFull 0 (length (now (out .entry))) 0 (length (now (places .entry)))) t read (held (now (flat .entry)) (now (ends .entry)) (now (shot .entry))) (now (block .entry)) (held (now (flat .exit)) (now (ends .exit)) (now (shot .exit))) (now (block .exit)) r ⌝ }
+    ensures { λ r. ⌜ Turned (isFull 0 (length (now (out .entry))) 0 (length (now (places .entry)))) t read (passed (now (flat .entry)) (now (ends .entry)) (now (shot .entry)) (now (window .entry))) (now (block .entry)) (passed (now (flat .exit)) (now (ends .exit)) (now (shot .exit)) (now (window .exit))) (now (block .exit)) r ⌝ }
 {
     let st = t.state;
     let tally = t.tally;
@@ -49,6 +50,7 @@ fn one_turn(
         flat,
         ends,
         shot,
+        window,
         &block[0..end],
         out,
         places,
@@ -72,11 +74,12 @@ pub fn run(
     flat: &mut [u16],
     ends: &mut [u16],
     shot: &mut [u8],
+    window: &mut [u16],
     block: &mut [u8],
     out: &mut [u8],
     places: &mut [usize],
 ) -> Turn
-    ensures { λ r. ⌜ Ran (isFull 0 (length (now (out .entry))) 0 (length (now (places .entry)))) (held (now (flat .entry)) (now (ends .entry)) (now (shot .entry))) (held (now (flat .exit)) (now (ends .exit)) (now (shot .exit))) r ⌝ }
+    ensures { λ r. ⌜ Ran (isFull 0 (length (now (out .entry))) 0 (length (now (places .entry)))) (passed (now (flat .entry)) (now (ends .entry)) (now (shot .entry)) (now (window .entry))) (passed (now (flat .exit)) (now (ends .exit)) (now (shot .exit)) (now (window .exit))) r ⌝ }
 {
     let st = states::fresh();
     let none = Tally {
@@ -105,7 +108,7 @@ pub fn run(
     let mut turns = u64::MAX;
     while turns > 0 && !t.over {
         let read = input::refill(block, t.held);
-        t = one_turn(t, read, flat, ends, shot, block, out, places);
+        t = one_turn(t, read, flat, ends, shot, window, block, out, places);
         turns -= 1;
     }
     t

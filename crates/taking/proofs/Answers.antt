@@ -4,14 +4,12 @@ use mathlib.Core.Bool.{Bool, true, false, cond, _||_, or-false}
 use mathlib.Core.List.{List}
 use Prim.Native.Nat.{ℕ, _+_, _-_, _≤_, _<_}
 use native.Mathlib.Omega.{arith}
-use borrow.Author.Tests.{ltb-false, leb-false, le-leb, lt-ltb, le-ltb}
-use lib.Dec.{ltb, leb}
+use borrow.Author.Tests.{le-leb}
 use lib.ListN.{length, length-drop, drop}
 use lib.Seq.{sets, length-take-le, drop-drop}
 use Rattle.records.specs.declared.State.{State}
 use Rattle.records.specs.declared.Reply.{Reply}
-use Rattle.records.specs.Lists.{Lists}
-use Rattle.claim.specs.Calls.{Step}
+use Rattle.claim.specs.Calls.{Passed, passedOf, Step}
 use Rattle.counts.specs.declared.Tally.{Tally}
 use Rattle.lines.specs.declared.Put.{Put}
 use Rattle.lines.specs.Lines.{roomFor, Lined}
@@ -69,7 +67,7 @@ begin-ready st tally from ended block out places =
     }
 
 -- Where the program stands after the answer.
-pub answered-stand : (e : Bool) (p r : Progress) (reply : Reply) (block x z old new : List ℕ) (most : ℕ) (k : Step) (l : Lists) → p .next ≡ nextOf e (drop (p .taken) block) → p .taken + p .next ≤ length block → k .bytes ≡ recordAt p block → k .reply ≡ reply → Answered e p reply block x z old new most r → standOf r (k .left .lists) block ≡ next e (standOf p l block) k
+pub answered-stand : (e : Bool) (p r : Progress) (reply : Reply) (block x z old new : List ℕ) (most : ℕ) (k : Step) (l : Passed) → p .next ≡ nextOf e (drop (p .taken) block) → p .taken + p .next ≤ length block → k .bytes ≡ recordAt p block → k .reply ≡ reply → Answered e p reply block x z old new most r → standOf r (passedOf (k .left)) block ≡ next e (standOf p l block) k
 answered-stand e p r reply block x z old new most k l n h b y a =
     let m : length (k .bytes) ≡ p .next = ap length b ∙ record-long p block h in
     rw (a .state, a .tally, a .over, a .taken, m, y, sym n, drop-drop (p .next) (p .taken) block)

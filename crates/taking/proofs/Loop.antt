@@ -10,7 +10,7 @@ use lib.Seq.{length-sets}
 use Rattle.records.specs.declared.Reply.{Reply}
 use Rattle.records.specs.Lists.{Lent}
 use Rattle.records.specs.Promise.{Promise}
-use Rattle.claim.specs.Calls.{Step}
+use Rattle.claim.specs.Calls.{passedOf, Step}
 use Rattle.taking.specs.declared.Progress.{Progress}
 use Rattle.taking.specs.Taking.{Stand, One, next, lineOf, Took}
 use Rattle.taking.specs.Progress.{standOf, recordAt, textOf, Ready, Going, Answered}
@@ -23,13 +23,13 @@ abbrev callOf : List ℕ → Lent → Lent → Reply → Step
 callOf bytes old new reply = record { bytes = bytes; work = old .work; six = old .six; reply = reply; left = new }
 
 module _ (e : Bool) (w : Stand) (p r : Progress) (block out text places bytes : List ℕ) (most : ℕ) (old new : Lent) (reply : Reply)
-    (t : Took e w (standOf p (old .lists) block) (p .put) (p .noted) out places)
+    (t : Took e w (standOf p (passedOf old) block) (p .put) (p .noted) out places)
     (h : 0 < p .next) (d : Ready e p block out (length places))
     (b : bytes ≡ recordAt p block)
     (s : Promise (p .state) bytes old new reply)
     (m : length places ≡ most)
     (a : Answered e p reply block (new .six .x .correction) (new .six .z .correction) out text most r) where
-  one : One e (standOf p (old .lists) block) (callOf bytes old new reply)
+  one : One e (standOf p (passedOf old) block) (callOf bytes old new reply)
   one = record { goes = d .goes; more = rw (d .next) at h; bytes = b ∙ rw (d .next); keeps = s }
 
   line : textOf p reply block (new .six .x .correction) (new .six .z .correction) ≡ lineOf (callOf bytes old new reply)
@@ -38,13 +38,13 @@ module _ (e : Bool) (w : Stand) (p r : Progress) (block out text places bytes : 
   put-line : r .put ≡ p .put + length (lineOf (callOf bytes old new reply))
   put-line = a .put ∙ rw line
 
-  stand : standOf r (new .lists) block ≡ next e (standOf p (old .lists) block) (callOf bytes old new reply)
+  stand : standOf r (passedOf new) block ≡ next e (standOf p (passedOf old) block) (callOf bytes old new reply)
   stand =
-      answered-stand e p r reply block _ _ out text most (callOf bytes old new reply) (old .lists) (d .next) (next-at e block (p .taken) (p .next) h (d .next)) b refl a
+      answered-stand e p r reply block _ _ out text most (callOf bytes old new reply) (passedOf old) (d .next) (next-at e block (p .taken) (p .next) h (d .next)) b refl a
 
-  pub turn-took : Took e w (standOf r (new .lists) block) (r .put) (r .noted) text (set places (p .noted) (r .put))
+  pub turn-took : Took e w (standOf r (passedOf new) block) (r .put) (r .noted) text (set places (p .noted) (r .put))
   turn-took =
-      rw (stand, a .noted, put-line, a .text, line) (took-more e w (standOf p (old .lists) block) (p .put) (p .noted) out places (callOf bytes old new reply) t one (omega (arith, put-line, a .fits)) (d .place))
+      rw (stand, a .noted, put-line, a .text, line) (took-more e w (standOf p (passedOf old) block) (p .put) (p .noted) out places (callOf bytes old new reply) t one (omega (arith, put-line, a .fits)) (d .place))
 
   text-long : length text ≡ length out
   text-long = rw (a .text) (length-sets out (p .put) (textOf p reply block (new .six .x .correction) (new .six .z .correction)))

@@ -14,7 +14,7 @@ use lib.ListN.{length, getD, take, drop}
 use lib.Seq.{sets}
 use Rattle.records.specs.declared.State.{State}
 use Rattle.records.specs.declared.Reply.{Reply}
-use Rattle.records.specs.Lists.{Lists}
+use Rattle.claim.specs.Calls.{Passed}
 use Rattle.counts.specs.declared.Tally.{Tally}
 use Rattle.counts.specs.Counts.{tallied}
 use Rattle.lines.specs.Lines.{linesOf}
@@ -35,7 +35,7 @@ beginOf st tally from ended block room most = record {
   over = false;
 }
 
-abbrev pub standOf : Progress → Lists → List ℕ → Stand
+abbrev pub standOf : Progress → Passed → List ℕ → Stand
 standOf p l block = record { state = p .state; lists = l; tally = p .tally; over = p .over; rest = drop (p .taken) block }
 
 pub record Ready (ended : Bool) (p : Progress) (block out : List ℕ) (most : ℕ) : Type 0 where
@@ -67,7 +67,7 @@ pub record Answered (ended : Bool) (p : Progress) (reply : Reply) (block x z old
   pub fits : r .put ≤ length old
   pub ready : 0 < r .next → Ready ended r block new most
 
-pub record Filled (ended : Bool) (p : Progress) (l k : Lists) (block out places : List ℕ) (r : Progress) : Type 0 where
+pub record Filled (ended : Bool) (p : Progress) (l k : Passed) (block out places : List ℕ) (r : Progress) : Type 0 where
   pub took : Took ended (standOf p l block) (standOf r k block) (r .put) (r .noted) out places
   pub put : r .put ≤ length out
   pub noted : r .noted ≤ length places

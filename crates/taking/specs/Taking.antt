@@ -12,8 +12,7 @@ use mathlib.Core.List.{List, [], _∷_, _++_}
 use Prim.Native.Nat.{ℕ, _+_, _<_}
 use lib.ListN.{length, getD, take, drop}
 use Rattle.records.specs.declared.State.{State}
-use Rattle.records.specs.Lists.{Lists}
-use Rattle.claim.specs.Calls.{Step, step, Keeps}
+use Rattle.claim.specs.Calls.{Passed, passedOf, Step, step, Keeps}
 use Rattle.counts.specs.declared.Tally.{Tally}
 use Rattle.counts.specs.Counts.{tallied}
 use Rattle.lines.specs.Lines.{linesOf}
@@ -21,7 +20,7 @@ use Rattle.cutting.specs.Cutting.{nextOf, isLast}
 
 pub record Stand : Type 0 where
   pub state : State
-  pub lists : Lists
+  pub lists : Passed
   pub tally : Tally
   pub over : Bool
   pub rest : List ℕ
@@ -35,7 +34,7 @@ pub record One (ended : Bool) (w : Stand) (k : Step) : Type 0 where
 abbrev pub next : Bool → Stand → Step → Stand
 next ended w k = record {
   state = k .reply .state;
-  lists = k .left .lists;
+  lists = passedOf (k .left);
   tally = tallied (w .tally) (length (k .bytes)) (k .reply .answer);
   over = isLast (k .reply .answer);
   rest = drop (nextOf ended (w .rest)) (w .rest);

@@ -7,7 +7,7 @@ use cutting::next_length;
 use records::State;
 ghost use mathlib.Core.Path.{_≡_};
 ghost use lib.ListN.{length};
-ghost use Rattle.records.specs.Lists.{held};
+ghost use Rattle.claim.specs.Calls.{passed};
 ghost use Rattle.taking.specs.Progress.{beginOf, Going, Filled};
 
 // How far a block is done. taken: the bytes of input taken. next: those of the next record, 0 where none is to be taken before what is put
@@ -52,12 +52,13 @@ fn all_records(
     flat: &mut [u16],
     ends: &mut [u16],
     shot: &mut [u8],
+    window: &mut [u16],
     block: &[u8],
     out: &mut [u8],
     places: &mut [usize],
 ) -> Progress
     requires { ⌜ (p .put ≡ 0) × (p .noted ≡ 0) × Going ended p (now block) (now out) (now places) ⌝ }
-    ensures { λ r. ⌜ Filled ended p (held (now (flat .entry)) (now (ends .entry)) (now (shot .entry))) (held (now (flat .exit)) (now (ends .exit)) (now (shot .exit))) (now (block .entry)) (now (out .exit)) (now (places .exit)) r ⌝ }
+    ensures { λ r. ⌜ Filled ended p (passed (now (flat .entry)) (now (ends .entry)) (now (shot .entry)) (now (window .entry))) (passed (now (flat .exit)) (now (ends .exit)) (now (shot .exit)) (now (window .exit))) (now (block .entry)) (now (out .exit)) (now (places .exit)) r ⌝ }
 {
     let mut work = [0u64; 10240];
     let mut x_marks = [0u8; 1024];
@@ -76,6 +77,7 @@ fn all_records(
             flat,
             ends,
             shot,
+            window,
             &mut work,
             &mut x_marks,
             &mut x_forms,
@@ -110,12 +112,13 @@ pub fn take_records(
     flat: &mut [u16],
     ends: &mut [u16],
     shot: &mut [u8],
+    window: &mut [u16],
     block: &[u8],
     out: &mut [u8],
     places: &mut [usize],
 ) -> Progress
-    ensures { λ r. ⌜ Filled ended (beginOf st tally from ended (now (block .entry)) (length (now (out .entry))) (length (now (places .entry)))) (held (now (flat .entry)) (now (ends .entry)) (now (shot .entry))) (held (now (flat .exit)) (now (ends .exit)) (now (shot .exit))) (now (block .entry)) (now (out .exit)) (now (places .exit)) r ⌝ }
+    ensures { λ r. ⌜ Filled ended (beginOf st tally from ended (now (block .entry)) (length (now (out .entry))) (length (now (places .entry)))) (passed (now (flat .entry)) (now (ends .entry)) (now (shot .entry)) (now (window .entry))) (passed (now (flat .exit)) (now (ends .exit)) (now (shot .exit)) (now (window .exit))) (now (block .entry)) (now (out .exit)) (now (places .exit)) r ⌝ }
 {
     let p = begin(st, tally, from, ended, block, out.len(), places.len());
-    all_records(p, ended, flat, ends, shot, block, out, places)
+    all_records(p, ended, flat, ends, shot, window, block, out, places)
 }
