@@ -23,10 +23,10 @@ impl Rack {
     pub fn new() -> Rack {
         assert_eq!(version(), VERSION, "the library's version");
         let (flat, ends) = (list(least::FLAT), list(least::ENDS));
-        let (shot, work) = (list(least::SHOT), list(least::WORK));
+        let (shot, window, work) = (list(least::SHOT), list(least::WINDOW), list(least::WORK));
         // The versions are the same.
         let state = unsafe { fresh() };
-        Rack { state, lent: Lent { flat, ends, shot, work, x: three(), z: three() } }
+        Rack { state, lent: Lent { flat, ends, shot, window, work, x: three(), z: three() } }
     }
 
     pub fn take(&mut self, record: &[u8]) -> Reply {

@@ -1,4 +1,5 @@
-/* A thousand random losses on the Steane code: loads the code, sends the shots, tests the flips and prints a table of words.
+/* A thousand random losses on the Steane code: loads the code, sends the shots, tests the flips and prints a table of words, then the counts of the last 256
+ * shots.
  *
  *   cc -I crates/rack/include examples/c/steane.c target/staticlib/librack.a -o steane
  */
@@ -84,6 +85,11 @@ static void print(char half, const struct tally *tally) {
         printf("%c     %-8s %6d %7d\n", half, rack_word_name(word), tally->shots[word], tally->undone[word]);
 }
 
+static void print_last(char half, struct rack_half_counts last) {
+    printf("%c     %7u %7u %5u %6u %8u", half, last.certain, last.unsure, last.none, last.spent, last.stopped);
+    printf(" %6u %8u %5u\n", last.turns, last.guesses, last.live);
+}
+
 /* Sends a record that must not be refused. */
 static struct rack_reply take(struct rack_record record) {
     struct rack_reply reply = rack_take(&rack, record);
@@ -118,6 +124,7 @@ static struct rack_reply decode(const struct shot *shot) {
 
 int main(void) {
     static struct tally x, z;
+    struct rack_counts last;
 
     if (!rack_start(&rack))
         fail("start", "header and archive are of different versions");
@@ -133,5 +140,9 @@ int main(void) {
     printf("half  word      shots  undone\n");
     print('X', &x);
     print('Z', &z);
+    last = rack_counts_of(&rack);
+    printf("the last 256 shots\nhalf  certain  unsure  none  spent  stopped  turns  guesses  live\n");
+    print_last('X', last.x);
+    print_last('Z', last.z);
     return 0;
 }

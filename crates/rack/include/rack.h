@@ -1,7 +1,7 @@
 /* The loss decoder for a rack's own program, in C or C++. Link with librack.a.
  *
  * A program starts a `struct rack`, loads a code and sends shots: functions below make the records, `rack_take` takes one and hands back the answer.
- * README.md has the tables of records, words and refusals; examples/c/steane.c is a whole program.
+ * `rack_counts_of` counts the last 256 reports. README.md has the tables of records, words and refusals; examples/c/steane.c is a whole program.
  *
  * Which half reads which rows: the X half holds X errors, found from the Z rows, so `rack_lit_z` and `rack_unread_z` are about the X half. The Z half
  * holds Z errors, found from the X rows, so `rack_lit_x` and `rack_unread_x` are about the Z half. Nothing can object to the two exchanged.
@@ -27,7 +27,7 @@ extern "C" {
 /* ---- Numbers ---- */
 
 /* The version of records, lists and structs. */
-#define RACK_VERSION 6
+#define RACK_VERSION 7
 
 /* The kind of a record, its first byte. A row's is this and as many more as it has qubits. */
 enum rack_kind {
@@ -59,6 +59,7 @@ enum rack_least {
     RACK_LEAST_FLAT = 16384,
     RACK_LEAST_ENDS = 1024,
     RACK_LEAST_SHOT = 2048,
+    RACK_LEAST_WINDOW = 2560,
     RACK_LEAST_WORK = 10240,
     RACK_LEAST_MARKS = 1024,
     RACK_LEAST_FORMS = 4096,
@@ -118,10 +119,11 @@ enum rack_phase {
 
 /* ---- The library ---- */
 
-/* n, x, z: the code's qubits, X rows and Z rows; rows: those taken so far. */
+/* n, x, z: the code's qubits, X rows and Z rows; rows: those taken so far. reports: those since the last RACK_KIND_SIZES that was not refused; after 511
+ * the next is 256, so that the last min(reports, 256) are kept and the next place is reports % 256. */
 struct rack_state {
     uint8_t phase, clash, spoiled, stale;
-    uint16_t n, x, z, rows;
+    uint16_t n, x, z, rows, reports;
 };
 
 struct rack_half {
@@ -135,19 +137,33 @@ struct rack_reply {
     struct rack_half x, z;
 };
 
+/* How many of the reports counted had each word, and the sums of their turns, guesses and live guesses. The five words add up to the reports. */
+struct rack_half_counts {
+    uint32_t certain, unsure, none, spent, stopped, turns, guesses, live;
+};
+
+/* x, z: the halves' counts, zeros if the read is refused. */
+struct rack_counts {
+    uint32_t refusal;
+    struct rack_half_counts x, z;
+};
+
 /* The archive's version. Where it is not RACK_VERSION, nothing else of the archive may be called. */
 uint16_t rack_version(void);
 
-/* No code and no shot. */
+/* No code, no shot and no report. */
 struct rack_state rack_fresh(void);
 
 /* One record on lists of the caller's; `rack_take` is this on a `struct rack`.
  *
- * State, `flat`, `ends` and `shot` pass from call to call as the last call left them, also where it refused; nobody else writes them in between. The
- * work list and the six lists of a decode may be others at every call. `shot` has 1 for each lost qubit, else 0, and from element 1,024 on, the X rows
- * first, 1 for each lit row, 2 for each unread one, else 0. After RACK_ANSWER_DECODED the first n elements of a half's marks and correction, and the
- * first 4 * n of its forms, are what it came to; what is past them stays. The correction has 1 for each qubit to flip if the half is certain or unsure,
- * else all 0. A form has four words: bit k of qubit q's is bit k % 64 of element 4 * q + k / 64. Bit 0 is the constant, bit k the k-th live guess.
+ * State, `flat`, `ends`, `shot` and `window` pass from call to call as the last call left them, also where it refused; nobody else writes them in
+ * between. The work list and the six lists of a decode may be others at every call. `shot` has 1 for each lost qubit, else 0, and from element 1,024 on,
+ * the X rows first, 1 for each lit row, 2 for each unread one, else 0. After RACK_ANSWER_DECODED the first n elements of a half's marks and correction,
+ * and the first 4 * n of its forms, are what it came to; what is past them stays. The correction has 1 for each qubit to flip if the half is certain or
+ * unsure, else all 0. A form has four words: bit k of qubit q's is bit k % 64 of element 4 * q + k / 64. Bit 0 is the constant, bit k the k-th live guess.
+ *
+ * `window` keeps the last 256 reports, ten elements each: the X half's word, fixed, turns, guesses and live, then the Z half's. RACK_ANSWER_DECODED writes
+ * those from 10 * (reports % 256) on, `reports` being that of the state handed in; no other answer writes any.
  *
  * The caller owes: pointers that are not null, aligned for their elements and good for the length given; lists that do not overlap.
  * A list shorter than its least length gets RACK_REFUSAL_SHORT, and no refusal writes to a list. Over a state or lists that were altered between
@@ -159,6 +175,7 @@ struct rack_reply rack_step(
     uint16_t *flat, size_t flat_length,
     uint16_t *ends, size_t ends_length,
     uint8_t *shot, size_t shot_length,
+    uint16_t *window, size_t window_length,
     uint64_t *work, size_t work_length,
     uint8_t *x_marks, size_t x_marks_length,
     uint64_t *x_forms, size_t x_forms_length,
@@ -186,6 +203,18 @@ RACK_MUST_USE uint16_t rack_candidate(
     const uint64_t *forms, size_t forms_length,
     uint64_t number,
     uint8_t *candidate, size_t candidate_length);
+
+/* The last 256 reports counted, from a list of the caller's; `rack_counts_of` is this on a `struct rack`.
+ *
+ * Of state and `window` as the last call left them: the counts over the last 256 reports since the last RACK_KIND_SIZES that was not refused, or over all
+ * of these if there were fewer. A refused record does not enter, and nothing but that RACK_KIND_SIZES empties the window: a code that is dropped by a
+ * refusal leaves it. It may be read at any time, and a read writes nothing. Over a state or a list that was altered the counts are those of the first
+ * min(reports, 256) places; an element that is no word's number counts for no word.
+ *
+ * The refusal is 0, or RACK_REFUSAL_SHORT where `window` has fewer than RACK_LEAST_WINDOW elements, and then all counts are 0.
+ *
+ * The caller owes what `rack_step` asks of pointers and lists. */
+struct rack_counts rack_window(struct rack_state state, const uint16_t *window, size_t window_length);
 
 /* ---- Records ---- */
 
@@ -232,7 +261,7 @@ static inline struct rack_record rack_of_row(uint8_t kind, const uint16_t *qubit
     return record;
 }
 
-/* A code's qubits, X rows and Z rows: drops any code and shot. All X rows follow, then all Z rows. */
+/* A code's qubits, X rows and Z rows: drops any code and shot, and empties the window of reports. All X rows follow, then all Z rows. */
 static inline struct rack_record rack_sizes(size_t n, size_t x, size_t z) {
     struct rack_record record = rack_of_number(RACK_KIND_SIZES, n);
 
@@ -295,10 +324,10 @@ static inline struct rack_record rack_decode(size_t budget, size_t limit) {
 
 /* ---- A rack with lists that are always long enough ---- */
 
-/* 188 kB: static or from the heap. */
+/* 194 kB: static or from the heap. */
 struct rack {
     uint64_t work[RACK_LEAST_WORK], x_forms[RACK_LEAST_FORMS], z_forms[RACK_LEAST_FORMS];
-    uint16_t flat[RACK_LEAST_FLAT], ends[RACK_LEAST_ENDS];
+    uint16_t flat[RACK_LEAST_FLAT], ends[RACK_LEAST_ENDS], window[RACK_LEAST_WINDOW];
     uint8_t shot[RACK_LEAST_SHOT];
     uint8_t x_marks[RACK_LEAST_MARKS], x_correction[RACK_LEAST_CORRECTION];
     uint8_t z_marks[RACK_LEAST_MARKS], z_correction[RACK_LEAST_CORRECTION];
@@ -306,7 +335,7 @@ struct rack {
     uint16_t version;
 };
 
-/* A fresh start: no code and no shot. False, and nothing started, if the archive's version is not the header's. */
+/* A fresh start: no code, no shot and no report. False, and nothing started, if the archive's version is not the header's. */
 RACK_MUST_USE static inline bool rack_start(struct rack *r) {
     r->version = rack_version();
     if (r->version != RACK_VERSION)
@@ -324,7 +353,8 @@ static inline struct rack_reply rack_take_bytes(struct rack *r, const uint8_t *b
     if (r->version != RACK_VERSION)
         return reply;
     reply = rack_step(
-        r->state, r->flat, RACK_LEAST_FLAT, r->ends, RACK_LEAST_ENDS, r->shot, RACK_LEAST_SHOT, r->work, RACK_LEAST_WORK,
+        r->state, r->flat, RACK_LEAST_FLAT, r->ends, RACK_LEAST_ENDS, r->shot, RACK_LEAST_SHOT,
+        r->window, RACK_LEAST_WINDOW, r->work, RACK_LEAST_WORK,
         r->x_marks, RACK_LEAST_MARKS, r->x_forms, RACK_LEAST_FORMS, r->x_correction, RACK_LEAST_CORRECTION,
         r->z_marks, RACK_LEAST_MARKS, r->z_forms, RACK_LEAST_FORMS, r->z_correction, RACK_LEAST_CORRECTION,
         bytes, length);
@@ -359,6 +389,17 @@ RACK_MUST_USE static inline uint16_t rack_x_candidate(
 RACK_MUST_USE static inline uint16_t rack_z_candidate(
     const struct rack *r, struct rack_reply reply, uint64_t number, uint8_t *candidate, size_t candidate_length) {
     return rack_candidate_of(r, reply.state.n, reply.z, r->z_marks, r->z_forms, number, candidate, candidate_length);
+}
+
+/* The last 256 reports of `r` counted: see `rack_window`. RACK_REFUSAL_SHORT only without a start, where there is no call. */
+static inline struct rack_counts rack_counts_of(const struct rack *r) {
+    struct rack_counts counts;
+
+    memset(&counts, 0, sizeof counts);
+    counts.refusal = RACK_REFUSAL_SHORT;
+    if (r->version != RACK_VERSION)
+        return counts;
+    return rack_window(r->state, r->window, RACK_LEAST_WINDOW);
 }
 
 /* ---- Words for people ---- */

@@ -1,10 +1,10 @@
 //! A thousand random losses on the Steane code: loads the code, sends the shots, tests the flips and
-//! prints a table of words.
+//! prints a table of words, then the counts of the last 256 shots.
 //!
 //!     cargo run --manifest-path examples/rust/Cargo.toml
 
 use rack::raw::most;
-use rack::{Error, Half, Rack, Report, Word};
+use rack::{Counts, Error, Half, HalfCounts, Rack, Report, Word};
 use std::process::ExitCode;
 
 const N: usize = 7;
@@ -107,7 +107,7 @@ fn count(tally: &mut Tally, half: &Half, lost: &Qubits, error: &Qubits) -> Resul
     Ok(())
 }
 
-fn run() -> Result<[Tally; 2], String> {
+fn run() -> Result<([Tally; 2], Counts), String> {
     let refused = |error: Error| error.to_string();
     let mut random = Random(1);
     let mut tallies = [Tally::default(); 2];
@@ -119,7 +119,7 @@ fn run() -> Result<[Tally; 2], String> {
         count(&mut tallies[0], &report.x, &shot.lost, &shot.x_error)?;
         count(&mut tallies[1], &report.z, &shot.lost, &shot.z_error)?;
     }
-    Ok(tallies)
+    Ok((tallies, rack.counts().map_err(refused)?))
 }
 
 fn print(half: char, tally: &Tally) {
@@ -128,15 +128,25 @@ fn print(half: char, tally: &Tally) {
     }
 }
 
+fn print_last(half: char, last: HalfCounts) {
+    let HalfCounts { certain, unsure, none, spent, stopped, turns, guesses, live } = last;
+    print!("{half}     {certain:7} {unsure:7} {none:5} {spent:6} {stopped:8}");
+    println!(" {turns:6} {guesses:8} {live:5}");
+}
+
 fn main() -> ExitCode {
     match run() {
-        Ok([x, z]) => {
+        Ok(([x, z], last)) => {
             println!(
                 "Steane code, {SHOTS} shots, each qubit lost with probability 1/{LOST_ONE_IN}"
             );
             println!("half  word      shots  undone");
             print('X', &x);
             print('Z', &z);
+            println!("the last 256 shots");
+            println!("half  certain  unsure  none  spent  stopped  turns  guesses  live");
+            print_last('X', last.x);
+            print_last('Z', last.z);
             ExitCode::SUCCESS
         }
         Err(why) => {

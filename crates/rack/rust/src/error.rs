@@ -5,7 +5,8 @@ use std::fmt::{self, Display, Formatter};
 
 #[derive(Clone, Copy, PartialEq, Eq, Debug)]
 pub enum Error {
-    /// The record was refused, and what it leaves is in the table of refusals; or a candidate was.
+    /// The record was refused, and what it leaves is in the table of refusals; or a candidate or a
+    /// read of the window was.
     Refused(Refusal),
     /// The library is of another version than these declarations.
     Version { library: u16 },

@@ -1,6 +1,6 @@
 //! Calls on lists that the caller owns.
 
-use crate::raw::{self, Reply, State};
+use crate::raw::{self, Counts, Reply, State};
 
 /// A half's three lists.
 pub struct Three<'a> {
@@ -14,6 +14,7 @@ pub struct Lent<'a> {
     pub flat: &'a mut [u16],
     pub ends: &'a mut [u16],
     pub shot: &'a mut [u8],
+    pub window: &'a mut [u16],
     pub work: &'a mut [u64],
     pub x: Three<'a>,
     pub z: Three<'a>,
@@ -36,7 +37,7 @@ pub fn version() -> u16 {
     unsafe { raw::rack_version() }
 }
 
-/// No code and no shot.
+/// No code, no shot and no report.
 ///
 /// # Safety
 /// The library's version is `raw::VERSION`.
@@ -44,7 +45,7 @@ pub unsafe fn fresh() -> State {
     raw::rack_fresh()
 }
 
-/// One record. State, `flat`, `ends` and `shot` are as the last call left them.
+/// One record. State, `flat`, `ends`, `shot` and `window` are as the last call left them.
 ///
 /// # Safety
 /// The library's version is `raw::VERSION`. The lists are slices, so they are aligned, good for
@@ -58,6 +59,8 @@ pub unsafe fn step(state: State, lent: &mut Lent, bytes: &[u8]) -> Reply {
         lent.ends.len(),
         lent.shot.as_mut_ptr(),
         lent.shot.len(),
+        lent.window.as_mut_ptr(),
+        lent.window.len(),
         lent.work.as_mut_ptr(),
         lent.work.len(),
         lent.x.marks.as_mut_ptr(),
@@ -95,4 +98,14 @@ pub unsafe fn candidate(half: Shown, number: u64, candidate: &mut [u8]) -> u16 {
         candidate.as_mut_ptr(),
         candidate.len(),
     )
+}
+
+/// The last 256 reports counted, by state and window as the last call left them. Refused as short,
+/// with zeros, for a window of fewer than `raw::least::WINDOW` elements. `Rack::counts` says what
+/// is counted.
+///
+/// # Safety
+/// The library's version is `raw::VERSION`. The list is a slice, as for `step`.
+pub unsafe fn window(state: State, window: &[u16]) -> Counts {
+    raw::rack_window(state, window.as_ptr(), window.len())
 }

@@ -4,7 +4,7 @@
 //! its logical qubits, then for each shot the lost qubits, the lit rows, the rows that could not be
 //! read, and a decode. What is refused is an error. A decode's [`Report`] borrows the rack's lists,
 //! so it can't be read after another call has changed them; [`Half::candidate`] shows each class of
-//! errors that fit once.
+//! errors that fit once. [`Rack::counts`] counts the last 256 reports.
 //!
 //! Which half reads which rows: the X half holds X errors, found from the Z rows, so
 //! [`Rack::lit_z`] and [`Rack::unread_z`] are about the X half. The Z half holds Z errors, found
@@ -25,5 +25,6 @@ mod report;
 pub use error::Error;
 pub use names::{Mark, Refusal, Word};
 pub use rack::Rack;
+pub use raw::HalfCounts;
 pub use record::Record;
-pub use report::{Answer, Half, Report, Sizes};
+pub use report::{Answer, Counts, Half, Report, Sizes};

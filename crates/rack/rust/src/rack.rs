@@ -2,14 +2,15 @@
 
 use crate::lent::{self, Lent, Three};
 use crate::raw::{self, answer, least, State};
-use crate::{Answer, Error, Half, Record, Refusal, Report, Sizes};
+use crate::{Answer, Counts, Error, Half, Record, Refusal, Report, Sizes};
 
-/// A code and a shot, and lists that are always long enough.
+/// A code, a shot and the last reports, and lists that are always long enough.
 pub struct Rack {
     state: State,
     flat: Box<[u16]>,
     ends: Box<[u16]>,
     shot: Box<[u8]>,
+    window: Box<[u16]>,
     work: Box<[u64]>,
     x: Lists,
     z: Lists,
@@ -46,7 +47,7 @@ impl Lists {
 }
 
 impl Rack {
-    /// A fresh start: no code and no shot. An error if the library is of another version.
+    /// A fresh start: no code, no shot and no report. An error if the library is of another version.
     pub fn new() -> Result<Rack, Error> {
         let library = lent::version();
         if library != raw::VERSION {
@@ -58,14 +59,15 @@ impl Rack {
             flat: list(least::FLAT),
             ends: list(least::ENDS),
             shot: list(least::SHOT),
+            window: list(least::WINDOW),
             work: list(least::WORK),
             x: Lists::new(),
             z: Lists::new(),
         })
     }
 
-    /// A code's qubits, X rows and Z rows: drops any code and shot. All X rows follow, then all Z
-    /// rows.
+    /// A code's qubits, X rows and Z rows: drops any code and shot, and empties the window of
+    /// reports. All X rows follow, then all Z rows.
     pub fn sizes(&mut self, n: usize, x: usize, z: usize) -> Result<Answer<'_>, Error> {
         self.take(Record::sizes(n, x, z))
     }
@@ -124,6 +126,14 @@ impl Rack {
         }
     }
 
+    /// The last 256 reports counted, those since the last `sizes` that was not refused; all of them
+    /// if they are fewer. A refused record does not enter, and nothing but that `sizes` empties the
+    /// window: a code that is dropped by a refusal leaves it. A read changes nothing.
+    pub fn counts(&self) -> Result<Counts, Error> {
+        // `new` compared the versions.
+        Counts::new(unsafe { lent::window(self.state, &self.window) })
+    }
+
     /// Takes a record.
     pub fn take(&mut self, record: Record) -> Result<Answer<'_>, Error> {
         self.record(record.bytes())
@@ -135,6 +145,7 @@ impl Rack {
             flat: &mut self.flat,
             ends: &mut self.ends,
             shot: &mut self.shot,
+            window: &mut self.window,
             work: &mut self.work,
             x: self.x.lend(),
             z: self.z.lend(),

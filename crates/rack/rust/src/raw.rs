@@ -1,7 +1,7 @@
 //! What `include/rack.h` declares, number for number.
 
 /// The version of records, lists and structs.
-pub const VERSION: u16 = 6;
+pub const VERSION: u16 = 7;
 
 /// The kind of a record, its first byte. A row's is this and as many more as it has qubits.
 pub mod kind {
@@ -34,6 +34,7 @@ pub mod least {
     pub const FLAT: usize = 16384;
     pub const ENDS: usize = 1024;
     pub const SHOT: usize = 2048;
+    pub const WINDOW: usize = 2560;
     pub const WORK: usize = 10240;
     pub const MARKS: usize = 1024;
     pub const FORMS: usize = 4096;
@@ -104,6 +105,7 @@ pub struct State {
     pub x: u16,
     pub z: u16,
     pub rows: u16,
+    pub reports: u16,
 }
 
 /// `struct rack_half`.
@@ -128,6 +130,30 @@ pub struct Reply {
     pub z: Half,
 }
 
+/// `struct rack_half_counts`: how many of the reports counted had each word, and the sums of their
+/// turns, guesses and live guesses. The five words add up to the reports.
+#[repr(C)]
+#[derive(Clone, Copy, PartialEq, Eq, Debug, Default)]
+pub struct HalfCounts {
+    pub certain: u32,
+    pub unsure: u32,
+    pub none: u32,
+    pub spent: u32,
+    pub stopped: u32,
+    pub turns: u32,
+    pub guesses: u32,
+    pub live: u32,
+}
+
+/// `struct rack_counts`.
+#[repr(C)]
+#[derive(Clone, Copy, PartialEq, Eq, Debug, Default)]
+pub struct Counts {
+    pub refusal: u32,
+    pub x: HalfCounts,
+    pub z: HalfCounts,
+}
+
 extern "C" {
     pub fn rack_version() -> u16;
     pub fn rack_fresh() -> State;
@@ -139,6 +165,8 @@ extern "C" {
         ends_length: usize,
         shot: *mut u8,
         shot_length: usize,
+        window: *mut u16,
+        window_length: usize,
         work: *mut u64,
         work_length: usize,
         x_marks: *mut u8,
@@ -168,4 +196,5 @@ extern "C" {
         candidate: *mut u8,
         candidate_length: usize,
     ) -> u16;
+    pub fn rack_window(state: State, window: *const u16, window_length: usize) -> Counts;
 }

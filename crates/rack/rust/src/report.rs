@@ -1,7 +1,7 @@
-//! What a record is answered.
+//! What a record is answered, and the last answers counted.
 
 use crate::lent::{self, Shown};
-use crate::raw::{self, most};
+use crate::raw::{self, most, HalfCounts};
 use crate::{Error, Mark, Refusal, Word};
 
 /// The answer to a record that is carried out.
@@ -103,6 +103,36 @@ impl<'a> Half<'a> {
         match unsafe { lent::candidate(half, number, candidate) } {
             0 => Ok(()),
             refusal => Err(Error::Refused(Refusal::try_from(refusal)?)),
+        }
+    }
+}
+
+/// The last reports counted, by half.
+#[derive(Clone, Copy, PartialEq, Eq, Debug)]
+pub struct Counts {
+    pub x: HalfCounts,
+    pub z: HalfCounts,
+}
+
+impl Counts {
+    pub(crate) fn new(counts: raw::Counts) -> Result<Counts, Error> {
+        let raw::Counts { refusal, x, z } = counts;
+        match refusal {
+            0 => Ok(Counts { x, z }),
+            refusal => Err(Error::Refused(Refusal::try_from(refusal as u16)?)),
+        }
+    }
+}
+
+impl HalfCounts {
+    /// How many of the reports had a word.
+    pub fn said(&self, word: Word) -> u32 {
+        match word {
+            Word::Certain => self.certain,
+            Word::Unsure => self.unsure,
+            Word::None => self.none,
+            Word::Spent => self.spent,
+            Word::Stopped => self.stopped,
         }
     }
 }
