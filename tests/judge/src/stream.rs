@@ -12,7 +12,7 @@ pub type Record = Vec<u8>;
 /// What the caller lends beside the record.
 #[derive(Clone, Copy)]
 pub struct Lent {
-    /// Whether a work, code or shot list is below its least length.
+    /// Whether a list of code, shot, reports or work is below its least length.
     pub short: bool,
     /// The length of the shortest of a decode's marks and corrections.
     pub room: usize,

@@ -5,13 +5,14 @@
 #include <stdio.h>
 #include <stdlib.h>
 
-enum { FLAT, ENDS, SHOT, WORK, X_MARKS, X_FORMS, X_CORRECTION, Z_MARKS, Z_FORMS, Z_CORRECTION, LISTS };
+enum { FLAT, ENDS, SHOT, WINDOW, WORK, X_MARKS, X_FORMS, X_CORRECTION, Z_MARKS, Z_FORMS, Z_CORRECTION, LISTS };
 enum { N = 4, FORMS = 4 * N, RECORDS = 21, DECODES = 2 };
 
 static const char *const names[LISTS] = {
-    "flat", "ends", "shot", "work", "x_marks", "x_forms", "x_correction", "z_marks", "z_forms", "z_correction"};
-static const size_t widths[LISTS] = {2, 2, 1, 8, 1, 8, 1, 1, 8, 1};
-static const size_t least[LISTS] = {RACK_LEAST_FLAT, RACK_LEAST_ENDS, RACK_LEAST_SHOT, RACK_LEAST_WORK, N, FORMS, N, N, FORMS, N};
+    "flat", "ends", "shot", "window", "work", "x_marks", "x_forms", "x_correction", "z_marks", "z_forms", "z_correction"};
+static const size_t widths[LISTS] = {2, 2, 1, 2, 8, 1, 8, 1, 1, 8, 1};
+static const size_t least[LISTS] = {
+    RACK_LEAST_FLAT, RACK_LEAST_ENDS, RACK_LEAST_SHOT, RACK_LEAST_WINDOW, RACK_LEAST_WORK, N, FORMS, N, N, FORMS, N};
 
 /* The records and their answers. */
 static const struct {
@@ -138,7 +139,7 @@ static struct rack_reply step(struct lent *lent, int record) {
     const size_t *length = lent->length;
     struct rack_reply reply = rack_step(
         lent->state, list[FLAT], length[FLAT], list[ENDS], length[ENDS], list[SHOT], length[SHOT],
-        list[WORK], length[WORK], list[X_MARKS], length[X_MARKS], list[X_FORMS], length[X_FORMS], list[X_CORRECTION],
+        list[WINDOW], length[WINDOW], list[WORK], length[WORK], list[X_MARKS], length[X_MARKS], list[X_FORMS], length[X_FORMS], list[X_CORRECTION],
         length[X_CORRECTION], list[Z_MARKS], length[Z_MARKS], list[Z_FORMS], length[Z_FORMS], list[Z_CORRECTION],
         length[Z_CORRECTION], records[record].bytes, records[record].length);
 
@@ -156,8 +157,12 @@ static const struct decode *decode_at(int record) {
 
 static void expect_decoded(const struct lent *lent, const struct rack_reply *reply, const struct decode *decode) {
     const void *lists[] = {decode->marks[0], decode->forms[0], decode->flips[0], decode->marks[1], decode->forms[1], decode->flips[1]};
+    size_t before = (size_t)(decode - decodes);
+    const uint8_t *kept = (const uint8_t *)lent->list[WINDOW] + before * sizeof decode->halves;
     int record = decode->record;
 
+    expect(reply->state.reports == before + 1, record, "the number of reports");
+    expect(memcmp(kept, decode->halves, sizeof decode->halves) == 0, record, names[WINDOW]);
     expect(memcmp(&reply->x, &decode->halves[0], sizeof reply->x) == 0, record, "the X half");
     expect(memcmp(&reply->z, &decode->halves[1], sizeof reply->z) == 0, record, "the Z half");
     for (int list = X_MARKS; list < LISTS; list++)

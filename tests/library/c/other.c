@@ -17,3 +17,7 @@ void rack_step(void) {
 void rack_candidate(void) {
     abort();
 }
+
+void rack_window(void) {
+    abort();
+}

@@ -1,6 +1,6 @@
-//! Ways to overwrite the lists of code and shot, and the state.
+//! Ways to overwrite the lists of code, shot and reports, and the state.
 
-use crate::lengths::NAMES;
+use crate::lengths::{FLAT, NAMES, SHOT, WINDOW};
 use crate::watch;
 use judge::random::Random;
 use rack::raw::State;
@@ -20,18 +20,20 @@ pub fn list(random: &mut Random, list: usize, bytes: &mut [u8]) {
             part[random.below(part.len())] ^= 1 << random.below(8);
         }),
         2 => part.fill(random.pick(&[0, u8::MAX])),
-        _ if list < 2 => plausible(random, list, part),
-        _ => part.fill_with(|| random.pick(&[0, 1, 1, 2, 2, 3])),
+        _ if list == SHOT => part.fill_with(|| random.pick(&[0, 1, 1, 2, 2, 3])),
+        _ => plausible(random, list, part),
     }
 }
 
-/// Qubits of some code for `flat`, ends of rows that are plausible one by one for `ends`.
+/// Qubits of some code for `flat`, ends of rows that are plausible one by one for `ends`, words and small counts for
+/// `window`.
 fn plausible(random: &mut Random, list: usize, part: &mut [u8]) {
     let shape = random.below(4);
     let mut end = 0;
     for (at, element) in part.chunks_exact_mut(2).enumerate() {
         end = match (list, shape) {
-            (0, _) => random.below(1100),
+            (FLAT, _) => random.below(1100),
+            (WINDOW, _) => random.below(7),
             (_, 0) => end + random.within(0, 16),
             (_, 1) => random.below(16_400),
             (_, 2) => random.within(16_380, 16_390),
@@ -55,15 +57,16 @@ pub fn state(random: &mut Random, old: State) -> State {
 /// A state whose parts are given by their places.
 fn of(mut part: impl FnMut(usize) -> u16) -> State {
     let [phase, clash, spoiled, stale] = [0, 1, 2, 3].map(|at| part(at) as u8);
-    let [n, x, z, rows] = [4, 5, 6, 7].map(part);
-    State { phase, clash, spoiled, stale, n, x, z, rows }
+    let [n, x, z, rows, reports] = [4, 5, 6, 7, 8].map(part);
+    State { phase, clash, spoiled, stale, n, x, z, rows, reports }
 }
 
 /// One bit of one part changed.
 fn flipped(random: &mut Random, old: State) -> State {
-    let State { phase, clash, spoiled, stale, n, x, z, rows } = old;
-    let mut parts = [phase.into(), clash.into(), spoiled.into(), stale.into(), n, x, z, rows];
-    parts[random.below(8)] ^= 1 << random.below(16);
+    let State { phase, clash, spoiled, stale, n, x, z, rows, reports } = old;
+    let flags = [phase, clash, spoiled, stale].map(u16::from);
+    let mut parts = [&flags[..], &[n, x, z, rows, reports]].concat();
+    parts[random.below(9)] ^= 1 << random.below(16);
     of(|at| parts[at])
 }
 
@@ -81,5 +84,6 @@ fn fitting(random: &mut Random, old: State) -> State {
         x: random.pick(&[old.x, x]),
         z: random.pick(&[old.z, z]),
         rows: random.pick(&[old.rows, x, x + z, (x + z).wrapping_sub(1), 1023, u16::MAX]),
+        reports: random.pick(&[old.reports, 1, 255, 256, 257, 511, 512, u16::MAX]),
     }
 }

@@ -1,7 +1,8 @@
-//! Calls over altered lists and an altered state end, within their lists.
+//! Calls over altered lists and an altered state end, within their lists, and a read counts what the
+//! window holds.
 
 use crate::alter;
-use crate::lengths::Lengths;
+use crate::lengths::{Lengths, LEAST, WIDTHS, WINDOW};
 use crate::session::Session;
 use crate::{watch, Checked};
 use judge::codes::{QUBITS, ROWS, WEIGHT};
@@ -60,7 +61,7 @@ impl Done {
 fn run(session: &mut Session, random: &mut Random, done: &mut Done) -> Judged {
     let [lists, state, other] = random.pick(&[[20, 0, 0], [0, 20, 50], [10, 20, 80]]);
     let mix = Mix { trouble: 5, wild: true, family: Some(random.pick(&SMALL)) };
-    let caller = &mut session.caller;
+    let Session { caller, reader, .. } = session;
     for record in records(random, 4, mix) {
         let record = if random.percent(other) { any_record(random) } else { record };
         let ready = caller.state.phase == phase::READY;
@@ -77,6 +78,7 @@ fn run(session: &mut Session, random: &mut Random, done: &mut Done) -> Judged {
         let before = caller.state;
         let reply = caller.call(&record, &short.unwrap_or(lengths))?;
         done.add(&record, &reply);
+        reader.read(caller.state, &caller.held[WINDOW][..LEAST[WINDOW] * WIDTHS[WINDOW]])?;
         if reply.refusal == refusal::ENCODED && random.percent(80) {
             // Rows that were altered seldom encode what is sent: the code is taken up again.
             caller.state = before;

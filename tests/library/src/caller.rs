@@ -1,8 +1,9 @@
-//! A caller of the library: code, shot and state as the last call left them, the rest new at every
-//! call.
+//! A caller of the library: code, shot, window and state as the last call left them, the rest new at
+//! every call.
 
 use crate::guard::{Region, Side};
-use crate::lengths::{Lengths, HELD, NAMES, WIDTHS};
+use crate::lengths::{Lengths, HELD, NAMES, WIDTHS, WINDOW};
+use crate::reports;
 use crate::tally::Tally;
 use crate::watch;
 use judge::codes::QUBITS;
@@ -16,7 +17,7 @@ pub struct Caller {
     pub random: Random,
     pub tally: Tally,
     pub state: State,
-    /// The bytes of `flat`, `ends` and `shot`.
+    /// The bytes of `flat`, `ends`, `shot` and `window`.
     pub held: [Vec<u8>; HELD],
     garbage: Vec<u8>,
     /// The part of the garbage that each list was last lent with.
@@ -33,7 +34,7 @@ impl Caller {
         let least = Lengths::least(QUBITS).0;
         let room: [usize; NAMES.len()] =
             std::array::from_fn(|list| (least[list] * times + 40) * WIDTHS[list]);
-        let most = *room.iter().max().expect("ten lists");
+        let most = *room.iter().max().expect("eleven lists");
         Caller {
             garbage: garbage(&mut random, most),
             random,
@@ -76,7 +77,8 @@ impl Caller {
         }
     }
 
-    /// One call; what is outside the lists and the record must stay, and after a refusal and after kind 8 every list.
+    /// One call. What is outside the lists and the record must stay, after a refusal and after kind 8 every list, and of
+    /// the window all but the place of a report.
     pub fn call(&mut self, record: &[u8], lengths: &Lengths) -> Result<Reply, String> {
         watch::record(record, || lengths.short(self.needed(record)));
         for list in 0..NAMES.len() {
@@ -92,6 +94,8 @@ impl Caller {
         let mut call = |bytes: &[u8]| unsafe { lent::step(self.state, &mut lent, bytes) };
         let step = |bytes: &[u8]| watch::call(|| call(bytes));
         let reply = self.record.locked(step);
+        let windows = [&self.held[WINDOW][self.lent[WINDOW].clone()], self.after(WINDOW)];
+        reports::entered(self.state, record, &reply, windows)?;
         self.state = reply.state;
         if reply.answer == answer::REFUSED || record.first() == Some(&kind::LOGICAL) {
             self.unwritten()?;
@@ -141,11 +145,13 @@ fn garbage(random: &mut Random, bytes: usize) -> Vec<u8> {
 }
 
 fn lend(lists: &mut [Region; NAMES.len()]) -> Lent<'_> {
-    let [flat, ends, shot, work, x_marks, x_forms, x_flips, z_marks, z_forms, z_flips] = lists;
+    let [flat, ends, shot, window, work, x_marks, x_forms, x_flips, z_marks, z_forms, z_flips] =
+        lists;
     Lent {
         flat: flat.elements(),
         ends: ends.elements(),
         shot: shot.elements(),
+        window: window.elements(),
         work: work.elements(),
         x: three(x_marks, x_forms, x_flips),
         z: three(z_marks, z_forms, z_flips),

@@ -3,7 +3,7 @@
 use crate::watch::CASE;
 use crate::{
     agrees, altered, bench, candidates, garbage, large, larger, logical, makers, numbers, owned,
-    short, Checked,
+    short, window, Checked,
 };
 use std::process::{Command, Output};
 
@@ -11,7 +11,7 @@ use std::process::{Command, Output};
 type Check = fn(u64, usize) -> Checked;
 
 /// Each check with its share of the shots, in percent.
-pub const ALL: [(&str, Check, usize); 15] = [
+pub const ALL: [(&str, Check, usize); 16] = [
     ("numbers", numbers::numbers, 100),
     ("makers", makers::makers, 100),
     ("owned", owned::owned, 100),
@@ -21,6 +21,7 @@ pub const ALL: [(&str, Check, usize); 15] = [
     ("large", large::large, 100),
     ("logical", logical::logical, 100),
     ("candidates", candidates::candidates, 100),
+    ("window", window::window, 100),
     ("longer", agrees::longer, 30),
     ("one-short", short::one_short, 100),
     ("any-short", short::any_short, 50),

@@ -1,15 +1,16 @@
-//! How long each of the ten lists is in a call.
+//! How long each of the eleven lists is in a call.
 
 use judge::form::WORDS;
 use judge::random::Random;
 use judge::stream::Lent;
 use rack::raw::least;
 
-/// The lists in the order of a call: code and shot, work, and a decode's six.
-pub const NAMES: [&str; 10] = [
+/// The lists in the order of a call: code, shot and window, work, and a decode's six.
+pub const NAMES: [&str; 11] = [
     "flat",
     "ends",
     "shot",
+    "window",
     "work",
     "x_marks",
     "x_forms",
@@ -20,15 +21,20 @@ pub const NAMES: [&str; 10] = [
 ];
 
 /// The bytes of an element.
-pub const WIDTHS: [usize; 10] = [2, 2, 1, 8, 1, 8, 1, 1, 8, 1];
+pub const WIDTHS: [usize; NAMES.len()] = [2, 2, 1, 2, 8, 1, 8, 1, 1, 8, 1];
 
-/// So many lists hold code and shot; then comes the work list, then the six.
-pub const HELD: usize = 3;
-pub const WORK: usize = 3;
-pub const SIX: usize = 4;
+/// The lists that hold code, shot and reports, and how many they are; then comes the work list, then
+/// the six.
+pub const FLAT: usize = 0;
+pub const ENDS: usize = 1;
+pub const SHOT: usize = 2;
+pub const WINDOW: usize = 3;
+pub const HELD: usize = 4;
+pub const WORK: usize = 4;
+pub const SIX: usize = 5;
 
-/// The least lengths of `flat`, `ends`, `shot` and `work`.
-pub const LEAST: [usize; SIX] = [least::FLAT, least::ENDS, least::SHOT, least::WORK];
+/// The least lengths of `flat`, `ends`, `shot`, `window` and `work`.
+pub const LEAST: [usize; SIX] = [least::FLAT, least::ENDS, least::SHOT, least::WINDOW, least::WORK];
 
 /// How many elements each of the six has for a qubit.
 pub const EACH: [usize; NAMES.len() - SIX] = [1, WORDS, 1, 1, WORDS, 1];
@@ -38,12 +44,12 @@ pub const TIMES: usize = 4;
 
 /// The lists' lengths, in elements.
 #[derive(Clone)]
-pub struct Lengths(pub [usize; 10]);
+pub struct Lengths(pub [usize; NAMES.len()]);
 
 impl Lengths {
     /// The least, the six lists for `n` qubits.
     pub fn least(n: usize) -> Lengths {
-        let mut lengths = [0; 10];
+        let mut lengths = [0; NAMES.len()];
         lengths[..SIX].copy_from_slice(&LEAST);
         lengths[SIX..].copy_from_slice(&EACH.map(|each| each * n));
         Lengths(lengths)

@@ -18,11 +18,14 @@ pub mod makers;
 pub mod mirror;
 pub mod numbers;
 pub mod owned;
+pub mod reader;
 pub mod report;
+pub mod reports;
 pub mod session;
 pub mod short;
 pub mod tally;
 pub mod watch;
+pub mod window;
 
 /// What a check did, or why it failed.
 pub type Checked = Result<String, String>;

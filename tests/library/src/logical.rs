@@ -98,7 +98,7 @@ fn shot(random: &mut Random, code: &Code, sort: Sort) -> [Vec<Record>; 2] {
     }
 }
 
-/// Each of the four lists below its least length: refusal 12, whatever number is sent.
+/// Each of the five lists below its least length: refusal 12, whatever number is sent.
 fn on_short_lists(session: &mut Session, random: &mut Random, sent: usize) -> Judged {
     for (list, least) in LEAST.into_iter().enumerate() {
         for length in [least - 1, random.below(least)] {
@@ -112,7 +112,7 @@ fn on_short_lists(session: &mut Session, random: &mut Random, sent: usize) -> Ju
     Ok(())
 }
 
-/// The four lists as short as they may be, and nothing in the six.
+/// The five lists as short as they may be, and nothing in the six.
 fn without_the_six(
     session: &mut Session,
     random: &mut Random,

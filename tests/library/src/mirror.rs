@@ -1,7 +1,9 @@
-//! What the model makes of each call: the reply, and the lists of code and shot by docs/LISTS.md.
+//! What the model makes of each call: the reply, and the lists of code, shot and reports by
+//! docs/LISTS.md.
 
-use crate::lengths::{Lengths, HELD};
+use crate::lengths::{Lengths, ENDS, FLAT, HELD, SHOT, WINDOW};
 use crate::report::half;
+use crate::reports::{self, Reports};
 use judge::compared::Compared;
 use judge::half::Report;
 use judge::machine;
@@ -10,9 +12,6 @@ use judge::stream::{Answer, Model, LOGICAL};
 use judge::wrong::Wrong;
 use rack::raw::{answer, phase, Reply, State};
 
-const FLAT: usize = 0;
-const ENDS: usize = 1;
-const SHOT: usize = 2;
 /// Where `shot` has the rows' elements, and what these are; 0 of a row that was read and is zero.
 const ROWS: usize = 1024;
 const LIT: u8 = 1;
@@ -23,21 +22,24 @@ pub type Decoded = (Decode, [Report; 2]);
 
 pub struct Mirror {
     model: Model,
-    /// The bytes of `flat`, `ends` and `shot`.
+    /// The bytes of `flat`, `ends`, `shot` and `window`.
     pub held: [Vec<u8>; HELD],
     /// The sizes announced and the rows taken so far.
     code: State,
     /// Whether `shot` still holds an earlier one.
     stale: bool,
+    pub reports: Reports,
     /// What records of kind 8 met, since the first start.
     pub compared: Compared,
 }
 
-/// What the header says of a reply: of a state its phase, and the code where there is one.
+/// What the header says of a reply: of a state its phase, the code where there is one, and the
+/// reports.
 pub fn told(mut reply: Reply) -> Reply {
-    let State { phase, n, x, z, rows, .. } = reply.state;
+    let State { phase, n, x, z, rows, reports, .. } = reply.state;
     let code = State { n, x, z, rows, ..State::default() };
-    reply.state = State { phase, ..if phase == phase::EMPTY { State::default() } else { code } };
+    let code = if phase == phase::EMPTY { State::default() } else { code };
+    reply.state = State { phase, reports, ..code };
     reply
 }
 
@@ -45,8 +47,8 @@ impl Mirror {
     /// A fresh start on these lists.
     pub fn new(held: &[Vec<u8>; HELD]) -> Mirror {
         let (model, held) = (Model::new(Wrong::Nothing), held.clone());
-        let compared = Compared::default();
-        Mirror { model, held, code: State::default(), stale: true, compared }
+        let (compared, reports) = (Compared::default(), Reports::default());
+        Mirror { model, held, code: State::default(), stale: true, reports, compared }
     }
 
     /// Another fresh start.
@@ -74,10 +76,12 @@ impl Mirror {
                 let reports = decode.halves().map(|half| machine::decode(&half, decode.asked));
                 reply.answer = answer::DECODED;
                 [reply.x, reply.z] = [half(&reports[0]), half(&reports[1])];
+                reports::put(&mut self.held[WINDOW], self.reports.number(), &reply);
                 decoded = Some((decode, reports));
             }
         }
-        reply.state = State { phase: self.phase(), ..self.code };
+        self.reports.take(record, &reply);
+        reply.state = State { phase: self.phase(), reports: self.reports.number(), ..self.code };
         (told(reply), decoded)
     }
 

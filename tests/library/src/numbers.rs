@@ -17,6 +17,7 @@ const MACHINE: &str = include_str!("../../../crates/machine/specs/Machine.antt")
 const TABLE: &str = include_str!("../../../crates/records/specs/Table.antt");
 const CANDIDATES: &str = include_str!("../../../crates/records/specs/Candidates.antt");
 const LISTS: &str = include_str!("../../../crates/records/specs/Lists.antt");
+const WINDOW: &str = include_str!("../../../crates/records/specs/Window.antt");
 
 /// Names as the header has them, with their numbers.
 type Numbers = Vec<(String, usize)>;
@@ -114,7 +115,7 @@ fn clauses(text: &str, function: &str, prefix: &str) -> Numbers {
 
 /// The numbers that the proved functions hand back, the least lengths that they ask for, the marks.
 fn specs(header: &Numbers) -> Judged {
-    let words = clauses(PLAIN, "wordNumber", "WORD_");
+    let words = clauses(WINDOW, "wordNumber", "WORD_");
     same("wordNumber", &part(header, "WORD_"), words)?;
     let phases = clauses(PLAIN, "phaseNumber", "PHASE_");
     same("phaseNumber", &part(header, "PHASE_"), phases)?;
@@ -123,9 +124,10 @@ fn specs(header: &Numbers) -> Judged {
     refusals.sort_by_key(|&(_, number)| number);
     refusals.dedup();
     same("the specs'", &part(header, "REFUSAL_"), refusals)?;
-    let short = LISTS.lines().find(|line| line.starts_with("shortLists l work ="));
+    let short = LISTS.split("\n\n").find(|text| text.contains("\nshortLists l window work ="));
     let short = short.expect("a definition of short lists");
-    let lists = ["(length (l .flat))", "(length (l .ends))", "(length (l .shot))", "work"];
+    let held = ["flat", "ends", "shot"].map(|list| format!("(length (l .{list}))"));
+    let lists = [&held[..], &["window".into(), "work".into()]].concat();
     let least = part(header, "LEAST_");
     lists.iter().zip(&least).try_for_each(|(list, (name, least))| {
         let asked = short.contains(&format!("ltb {list} {least}"));
@@ -146,7 +148,7 @@ fn judge(header: &Numbers) -> Judged {
     let most = [QUBITS, ROWS, WEIGHT, budget, limit, MOST_LIVE];
     let marks = [judged::NOT_LOST, judged::FIXED, judged::PEELED, judged::GUESSED, judged::OPEN];
     let kinds = [1, 2, 3, 4, 5, 6, 7, LOGICAL, X_ROW, Z_ROW];
-    let lists = [16_384, 1_024, 2_048, 10_240, QUBITS, WORDS * QUBITS, QUBITS];
+    let lists = [16_384, 1_024, 2_048, 2_560, 10_240, QUBITS, WORDS * QUBITS, QUBITS];
     for (prefix, known) in [
         ("MOST_", most.to_vec()),
         ("MARK_", marks.map(usize::from).to_vec()),

@@ -1,5 +1,7 @@
 //! The Rust crate's rack, with lists of its own, against the model.
 
+use crate::report::half;
+use crate::reports::Reports;
 use crate::{watch, Checked};
 use judge::candidates::Ask;
 use judge::codes::Code;
@@ -11,9 +13,11 @@ use judge::machine;
 use judge::random::Random;
 use judge::stream::{self, Lent, Model, Record};
 use judge::wrong::Wrong;
-use rack::{Answer, Error, Half, Rack, Refusal, Sizes};
+use rack::raw::{self, answer, Reply};
+use rack::{Answer, Counts, Error, Half, HalfCounts, Rack, Refusal, Sizes, Word};
 
-/// Streams of all families with every refusal but that of short lists: each answer is the model's.
+/// Streams of all families with every refusal but that of short lists: each answer is the model's,
+/// and so are the last reports counted after it.
 pub fn owned(seed: u64, shots: usize) -> Checked {
     let mut random = Random::new(seed);
     let mut calls = 0;
@@ -23,9 +27,11 @@ pub fn owned(seed: u64, shots: usize) -> Checked {
         watch::case();
         let mut rack = Rack::new().map_err(|error| error.to_string())?;
         let mut model = Model::new(Wrong::Nothing);
+        let mut reports = Reports::default();
         for record in &stream {
             watch::record(record, String::new);
-            step(&mut rack, &mut model, record)?;
+            reports.take(record, &step(&mut rack, &mut model, record)?);
+            counts(&rack, &reports)?;
             calls += 1;
         }
         odd_rows(&mut rack)?;
@@ -35,25 +41,42 @@ pub fn owned(seed: u64, shots: usize) -> Checked {
     Ok(format!("{calls} calls"))
 }
 
-fn step(rack: &mut Rack, model: &mut Model, record: &Record) -> Judged {
+/// A record, and of its reply, by the model, the answer and the halves.
+fn step(rack: &mut Rack, model: &mut Model, record: &Record) -> Result<Reply, String> {
     let expected = model.step(record, Lent::AMPLE);
     let answer = rack.record(record);
+    let mut reply = Reply::default();
     let same = match (&answer, &expected) {
         (Ok(Answer::Taken), stream::Answer::Taken) => true,
         (Ok(Answer::Complete(Sizes { n, x, z })), stream::Answer::Complete(code)) => {
             [*n, *x, *z].map(usize::from) == [code.n, code.x.len(), code.z.len()]
         }
         (Err(Error::Refused(why)), stream::Answer::Refused { number, .. }) => {
+            reply.answer = answer::REFUSED;
             why.number() == u16::from(*number)
         }
         (Ok(Answer::Decoded(report)), stream::Answer::Decode(decode)) => {
             let halves = decode.halves().map(|half| machine::decode(&half, decode.asked));
+            reply.answer = answer::DECODED;
+            [reply.x, reply.z] = [half(&halves[0]), half(&halves[1])];
             let mut told = [report.x, report.z].into_iter().zip(halves);
             told.all(|(half, report)| shows(&half, &report) && candidates(&half, &report))
         }
         _ => false,
     };
-    ensure(same, || format!("{answer:?}"))
+    ensure(same, || format!("{answer:?}"))?;
+    Ok(reply)
+}
+
+/// The last reports counted, and each word's count by the word.
+fn counts(rack: &Rack, reports: &Reports) -> Judged {
+    let raw::Counts { x, z, .. } = reports.counts();
+    let counts = rack.counts();
+    let words = |half: HalfCounts| Word::ALL.iter().map(move |&word| half.said(word));
+    let fields =
+        [x, z].map(|half| [half.certain, half.unsure, half.none, half.spent, half.stopped]);
+    let same = [x, z].into_iter().zip(fields).all(|(half, fields)| words(half).eq(fields));
+    ensure(same && counts == Ok(Counts { x, z }), || format!("{counts:?}, not {x:?} and {z:?}"))
 }
 
 /// Word, counts, lists, and what is made of them.

@@ -1,8 +1,9 @@
 //! A caller with the model beside it: every call is compared and every report judged.
 
 use crate::caller::Caller;
-use crate::lengths::{Lengths, EACH, HELD, LEAST, NAMES, SIX, WIDTHS, WORK};
+use crate::lengths::{Lengths, EACH, HELD, LEAST, NAMES, SIX, WIDTHS, WINDOW, WORK};
 use crate::mirror::{told, Decoded, Mirror};
+use crate::reader::{self, Reader};
 use crate::report;
 use judge::judge::{ensure, verdict, Judged};
 use judge::random::Random;
@@ -11,6 +12,7 @@ use rack::raw::{kind, phase, refusal, Reply, State};
 
 pub struct Session {
     pub caller: Caller,
+    pub reader: Reader,
     mirror: Mirror,
 }
 
@@ -19,9 +21,10 @@ pub type Draw = fn(&mut Random, usize) -> Lengths;
 
 impl Session {
     pub fn new(seed: u64, times: usize) -> Session {
-        let caller = Caller::new(seed, times);
+        let mut caller = Caller::new(seed, times);
+        let reader = Reader::new(caller.random.word());
         let mirror = Mirror::new(&caller.held);
-        Session { caller, mirror }
+        Session { caller, reader, mirror }
     }
 
     /// A fresh start, with anything in the lists.
@@ -57,7 +60,8 @@ impl Session {
         draw(&mut self.caller.random, needed)
     }
 
-    /// One call, equal to the model's in the reply and in each element of each list.
+    /// One call, equal to the model's in the reply and in each element of each list. Sometimes the
+    /// window is read after it.
     pub fn call(&mut self, record: &[u8], lengths: &Lengths) -> Result<Reply, String> {
         let (expected, decoded) = self.mirror.step(record, lengths);
         let before = self.caller.state;
@@ -73,7 +77,25 @@ impl Session {
             None => (WORK..NAMES.len()).try_for_each(|list| self.kept(list, 0))?,
             Some(decoded) => self.decoded(&reply, &decoded)?,
         }
+        if self.caller.random.percent(10) {
+            self.read(LEAST[WINDOW])?;
+        }
         Ok(reply)
+    }
+
+    /// A read of the window's first elements: if they are enough, a fresh count over the last of all
+    /// reports since the last kind 1 that was not refused.
+    pub fn read(&mut self, length: usize) -> Judged {
+        let list = &self.caller.held[WINDOW][..length * WIDTHS[WINDOW]];
+        let counts = self.reader.read(self.caller.state, list)?;
+        let enough = length >= LEAST[WINDOW];
+        let expected = if enough { self.mirror.reports.counts() } else { reader::SHORT };
+        ensure(counts == expected, || format!("{counts:?} should be {expected:?}"))
+    }
+
+    /// How many reports there were since the last kind 1 that was not refused.
+    pub fn reports(&self) -> usize {
+        self.mirror.reports.count()
     }
 
     /// The n qubits' elements are the model's, those after them as they were, and the report stands.
