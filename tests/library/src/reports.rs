@@ -85,23 +85,23 @@ pub fn put(list: &mut [u8], reports: u16, reply: &Reply) {
 }
 
 /// Of any state and window: a report enters at its place, and nothing else is written. Only a report
-/// and a kind 1 that is not refused change the number of reports; one above 511, which no call
-/// leaves, is not followed until such a kind 1.
+/// and a kind 1 that is not refused change the number of reports; after one above 511, which no call
+/// leaves, it is 256 too.
 pub fn entered(state: State, record: &[u8], reply: &Reply, windows: [&[u8]; 2]) -> Judged {
     let [before, after] = windows;
     let mut expected = before.to_vec();
-    let (mut reports, mut known) = (state.reports, state.reports <= 511);
+    let mut reports = state.reports;
     if reply.answer == answer::DECODED {
         let enough = before.len() >= LEAST[WINDOW] * WIDTHS[WINDOW];
         ensure(enough, || "a decode on a short window".into())?;
         put(&mut expected, reports, reply);
-        reports = if reports == 511 { 256 } else { reports.saturating_add(1) };
+        reports = if reports < 511 { reports + 1 } else { 256 };
     }
     if begins(record, reply) {
-        (reports, known) = (0, true);
+        reports = 0;
     }
     ensure(after == expected, || format!("the window after {reply:?} from {state:?}"))?;
-    ensure(reply.state.reports == reports || !known, || {
+    ensure(reply.state.reports == reports, || {
         format!("{} reports, not {reports}", reply.state.reports)
     })
 }
