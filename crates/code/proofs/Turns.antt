@@ -1,14 +1,14 @@
 -- The turns of the loops: what is left of a list decides. Assumes nothing.
 use mathlib.Core.Path.{_≡_, sym, ap, _∙_}
-use mathlib.Core.Bool.{true, false, _&&_, _||_}
+use mathlib.Core.Bool.{true, false, _&&_}
 use mathlib.Core.List.{List, _∷_}
 use Prim.Native.Nat.{ℕ, suc, _+_, _<_, _≤_}
 use native.Mathlib.Numerals.{add-one}
-use borrow.Author.Tests.{lt-ltb, le-ltb, le-leb, lt-leb, eq-eqb, ne-eqb}
-use lib.Dec.{leb, ltb, eqb}
+use borrow.Author.Tests.{lt-ltb, le-ltb, le-leb, lt-leb}
+use lib.Dec.{leb, ltb}
 use lib.ListN.{length, getD, drop, drop-of-length-le}
 use lib.Seq.{drop-cons}
-use Rattle.binary.specs.Meaning.{Row, has}
+use Rattle.binary.specs.Meaning.{Row}
 use Rattle.binary.proofs.Bits.{&&-false}
 use Rattle.code.specs.Tests.{ascendingFrom, ascending?}
 
@@ -37,20 +37,3 @@ module _ (n least i : ℕ) (row : Row) (left : ascendingFrom least n (drop i row
 
     pub ascending-turn : least ≤ q → q < n → ascendingFrom (q + 1) n (drop (i + 1) row) ≡ ascending? n row
     ascending-turn l m = rw (← ascending-next, add-one q, le-leb least q l, lt-ltb q n m)
-
-----------------------------------------------------------------------
--- Having a qubit
-
-module _ (row : Row) (q i : ℕ) (left : has (drop i row) q ≡ has row q) where
-  pub has-end : length row ≤ i → false ≡ has row q
-  has-end h = sym (ap (λ (l : Row). has l q) (drop-of-length-le row h)) ∙ left
-
-  module _ (h : i < length row) where
-    has-next : (eqb (getD row i 0) q || has (drop (i + 1) row) q) ≡ has row q
-    has-next = sym (ap (λ (l : Row). has l q) (drop-turn row i h)) ∙ left
-
-    pub has-found : getD row i 0 ≡ q → true ≡ has row q
-    has-found e = rw (← has-next, eq-eqb (getD row i 0) q e)
-
-    pub has-turn : (getD row i 0 ≡ q → ⊥) → has (drop (i + 1) row) q ≡ has row q
-    has-turn e = rw (← has-next, ne-eqb (getD row i 0) q e)

@@ -2,7 +2,6 @@
 ghost use mathlib.Core.Path.{_≡_};
 ghost use Prim.Native.Nat.{_+_, _<_, _≤_};
 ghost use lib.ListN.{length, getD};
-ghost use Rattle.binary.specs.Meaning.{has};
 ghost use Rattle.code.specs.Lists.{startOf, rowAt};
 ghost use Rattle.code.specs.Push.{written, Pushed};
 ghost use Rattle.code.specs.Tests.{ascending?};
@@ -117,18 +116,4 @@ pub fn ascending(n: u16, qubits: &[u16]) -> bool
         i += 1;
     }
     true
-}
-
-// Whether the row has the qubit.
-pub fn contains(row: &[u16], q: Qubit) -> bool
-    ensures { λ r. ⌜ r ≡ has (now (row .entry)) (q .0) ⌝ }
-{
-    let mut i: usize = 0;
-    while i < row.len() {
-        if row[i] == q.0 {
-            return true;
-        }
-        i += 1;
-    }
-    false
 }

@@ -1,21 +1,22 @@
 -- Sharing an odd number of qubits goes both ways, and commuting goes row by row. Assumes nothing.
 use mathlib.Core.Path.{_≡_, refl, sym, ap, ap₂, _∙_, subst, fun-ext}
-use mathlib.Core.Bool.{Bool, true, false, _&&_}
+use mathlib.Core.Bool.{Bool, true, false, not, _&&_, and-false}
 use mathlib.Core.Logic.{_↔_}
 use mathlib.Core.List.{List, [], _∷_, _++_}
-use Prim.Native.Nat.{ℕ}
-use borrow.Author.Tests.{eq-eqb, eqb-true}
-use lib.Dec.{eqb}
+use Prim.Native.Nat.{ℕ, _≤_}
+use native.Mathlib.Omega.{arith}
+use borrow.Author.Tests.{eq-eqb, eqb-true, lt-ltb}
+use lib.Dec.{eqb, ltb}
 use lib.ListN.{length}
 use Rattle.binary.specs.Bits.{_⊕_}
 use Rattle.binary.specs.Meaning.{Row, Qubits, All, all?, has, odd, Even, Commute, commute?}
 use Rattle.binary.proofs.Bits.{bit, iff-eq, &&-true}
-use Rattle.binary.proofs.Rows.{odd-sum, odd-none, all-in, all-out}
+use Rattle.binary.proofs.Rows.{odd-sum, odd-none, has-below, all-in, all-out}
 use Rattle.code.specs.Lists.{rowsBetween, Flat}
 use Rattle.code.specs.Tests.{Ascending}
-use Rattle.commuting.specs.Even.{evenWith?}
+use Rattle.commuting.specs.Even.{evenFor?, evenWith?}
 use Rattle.code.proofs.Flat.{flat-first}
-use Rattle.code.proofs.Order.{Distinct, ascending-distinct}
+use Rattle.code.proofs.Order.{Distinct, ascending-below, ascending-distinct}
 
 ----------------------------------------------------------------------
 -- Symmetry
@@ -62,14 +63,33 @@ all-append f (x ∷ a) b = ap (λ (t : Bool). f x && t) (all-append f a b) ∙ r
     regroup true q r = refl
     regroup false q r = refl
 
+abbrev even? : List Row → Row → Bool
+even? xs z = all? (λ x. not (odd (has x) z)) xs
+
+-- Of rows that ascend below 1,024 it does not matter which one's qubits are counted.
+module _ (n : ℕ) (few : n ≤ 1024) (z : Row) (az : Ascending n z) where
+  all-below : (q : ℕ) → (ltb q 1024 && has z q) ≡ has z q
+  all-below q =
+      bit (has z q) (λ t. rw (lt-ltb q 1024 (omega (arith, has-below n z (ascending-below n z az) q t)))) (λ t. rw (t, and-false (ltb q 1024)))
+
+  counted : (x : Row) → Ascending n x → odd (λ q. ltb q 1024 && has z q) x ≡ odd (has x) z
+  counted x ax =
+      ap (λ (s : Qubits). odd s x) (fun-ext all-below) ∙ odd-symmetric z x (ascending-distinct n z az) (ascending-distinct n x ax)
+
+  pub even-either : (xs : List Row) → All (Ascending n) xs → evenWith? xs z ≡ even? xs z
+  unfolding evenFor?
+  even-either [] a = refl
+  even-either (x ∷ xs) a = ap₂ (λ (b t : Bool). not b && t) (counted x (a .0)) (even-either xs (a .1))
+
 -- A row more commutes if it is even with each row of the other kind.
-pub commute-more : (zs xs : List Row) (z : Row) → commute? (zs ++ (z ∷ [])) xs ≡ (commute? zs xs && evenWith? xs z)
-unfolding commute? evenWith?
-commute-more zs xs z =
-    all-append (λ r. evenWith? xs r) zs (z ∷ []) ∙ ap (λ (t : Bool). commute? zs xs && t) (&&-true (evenWith? xs z) refl)
+pub commute-more : (zs xs : List Row) (z : Row) → commute? (zs ++ (z ∷ [])) xs ≡ (commute? zs xs && even? xs z)
+unfolding commute?
+commute-more zs xs z = all-append (λ r. even? xs r) zs (z ∷ []) ∙ ap (λ (t : Bool). commute? zs xs && t) (&&-true (even? xs z) refl)
 
 -- The same by what the code answers of the rows that the lists hold, those of the other kind first.
-pub commute-told : (xs zs : List Row) (flat ends : List ℕ) → Flat (xs ++ zs) flat ends → (to : ℕ) → to ≡ length xs
-    → (z : Row) (told : Bool) → told ≡ evenWith? (rowsBetween flat ends 0 to) z → commute? (zs ++ (z ∷ [])) xs ≡ (commute? zs xs && told)
-commute-told xs zs flat ends f to e z told t =
-    commute-more zs xs z ∙ ap (λ (b : Bool). commute? zs xs && b) (rw (← (flat-first xs zs flat ends f to e)) (sym t))
+pub commute-told : (n : ℕ) → n ≤ 1024 → (xs zs : List Row) (flat ends : List ℕ) → Flat (xs ++ zs) flat ends → (to : ℕ) → to ≡ length xs
+    → (z : Row) (told : Bool) → All (Ascending n) xs → Ascending n z → told ≡ evenWith? (rowsBetween flat ends 0 to) z
+    → commute? (zs ++ (z ∷ [])) xs ≡ (commute? zs xs && told)
+commute-told n few xs zs flat ends f to e z told ax az t =
+    commute-more zs xs z
+    ∙ ap (λ (b : Bool). commute? zs xs && b) (sym (even-either n few z az xs ax) ∙ rw (← (flat-first xs zs flat ends f to e)) (sym t))

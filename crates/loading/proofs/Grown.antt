@@ -170,12 +170,12 @@ module _ (st : State) (xs zs : List Row) (flat ends shot : List ℕ) (h : Loads 
   s = st .sizes
 
   -- The flag with this row tells whether some X and Z rows are odd.
-  pub clash-told : (p : Pauli) → awaited p (loading s xs zs) ≡ true
+  pub clash-told : (p : Pauli) → awaited p (loading s xs zs) ≡ true → Ascending (s .n) q
       → clashing p (st .clash) flat ends (s .x) q ≡ not (commute? (zsWith p q zs) (xsWith p q xs))
   unfolding commute?
-  clash-told X t = h .clash ∙ rw (x-before s xs zs (h .x-first) t)
-  clash-told Z t =
-      rw (commute-told xs zs flat ends (h .flat) (s .x) (sym (x-done s xs zs t)) q (evenWith? (rowsBetween flat ends 0 (s .x)) q) refl, h .clash)
+  clash-told X t a = h .clash ∙ rw (x-before s xs zs (h .x-first) t)
+  clash-told Z t a =
+      rw (commute-told (s .n) (range-out (s .n) (s .x) (s .z) (h .range) .qubits) xs zs flat ends (h .flat) (s .x) (sym (x-done s xs zs t)) q (evenWith? (rowsBetween flat ends 0 (s .x)) q) (h .good-xs .ascending) a refl, h .clash)
       (de-morgan (commute? zs xs) (evenWith? (rowsBetween flat ends 0 (s .x)) q))
 
   pub row-fits : length q ≤ 16 → 16384 ≤ length flat → 1024 ≤ length ends → room? flat ends (st .rows) q ≡ true
@@ -201,7 +201,7 @@ module _ (st : State) (xs zs : List Row) (flat ends shot : List ℕ) (h : Loads 
           good-xs = good-last (s .n) xs q (h .good-xs) asc w;
           good-zs = h .good-zs;
           flat = subst (λ (rows : List Row). Flat rows flat′ ends′) (moved xs zs q none) flat-next;
-          flag = clash-told X t;
+          flag = clash-told X t asc;
         }
       where
         none : zs ≡ []
@@ -216,7 +216,7 @@ module _ (st : State) (xs zs : List Row) (flat ends shot : List ℕ) (h : Loads 
           good-xs = h .good-xs;
           good-zs = good-last (s .n) zs q (h .good-zs) asc w;
           flat = rw append-assoc at flat-next;
-          flag = clash-told Z t;
+          flag = clash-told Z t asc;
         }
 
 ----------------------------------------------------------------------

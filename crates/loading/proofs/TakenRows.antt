@@ -154,12 +154,12 @@ module _ (p : Pauli) (st : State) (flat ends shot : List ℕ) (q : Row) (six : �
   flag = clashing p (st .clash) flat ends (s .x) q
 
   -- With the last row in, the flag tells whether rows clash; before it, none is told.
-  clashes-told : (xs zs : List Row) → Loads s xs zs st l → awaited p (loading s xs zs) ≡ true
+  clashes-told : (xs zs : List Row) → Loads s xs zs st l → awaited p (loading s xs zs) ≡ true → Ascending (s .n) q
       → clashes (addRow p q (loading s xs zs)) ≡ (eqb (st .rows + 1) (s .x + s .z) && flag)
-  clashes-told xs zs h t =
+  clashes-told xs zs h t asc =
       ap clashes (added p q s xs zs)
       ∙ bit (eqb (st .rows + 1) (s .x + s .z))
-      (λ e. rw (e, eq-eqb count (s .x + s .z) (same ∙ eqb-true (st .rows + 1) (s .x + s .z) e)) (sym (clash-told st xs zs flat ends shot h q p t)))
+      (λ e. rw (e, eq-eqb count (s .x + s .z) (same ∙ eqb-true (st .rows + 1) (s .x + s .z) e)) (sym (clash-told st xs zs flat ends shot h q p t asc)))
       (λ e. rw (e, ne-eqb count (s .x + s .z) (λ k. eqb-false (st .rows + 1) (s .x + s .z) e (sym same ∙ k))))
     where
       count : ℕ
@@ -173,7 +173,7 @@ module _ (p : Pauli) (st : State) (flat ends shot : List ℕ) (q : Row) (six : �
     unfolding Does refusal
     row-clash r k is =
         loading-only p st l (λ a. Answered false six (row p q) a l l r) t
-        (λ xs zs h w. answered-refused false six (row p q) (loading s xs zs) l Clash st r (rw (w, asc, clashes-told xs zs h w, ← told, k)) h is)
+        (λ xs zs h w. answered-refused false six (row p q) (loading s xs zs) l Clash st r (rw (w, asc, clashes-told xs zs h w asc, ← told, k)) h is)
 
     pub row-added : (flat′ ends′ : List ℕ) (done : Bool) (r : Reply) → length q ≤ 16 → 16384 ≤ length flat → 1024 ≤ length ends
         → (eqb (st .rows + 1) (s .x + s .z) && clash) ≡ false → Pushed flat ends (st .rows) q done flat′ ends′ → r ≡ progressOf s (st .rows + 1) clash (st .reports)
@@ -191,7 +191,7 @@ module _ (p : Pauli) (st : State) (flat ends shot : List ℕ) (q : Row) (six : �
             let d : done ≡ true = push .told ∙ row-fits st xs zs flat ends shot h q w long wide in
             let g = subst (λ (b : Bool). Grown s xs′ zs′ (st .rows + 1) b new) (sym told) (grown-row st xs zs flat ends shot h q flat′ ends′ w asc done push d p a) in
             let commutes : ltb (st .rows + 1) (s .x + s .z) ≡ false → clash ≡ false = λ b. rw (last b) at k in
-            answered false six (row p q) (loading s xs zs) l new r none (rw (a, asc, clashes-told xs zs h a, ← told, k))
+            answered false six (row p q) (loading s xs zs) l new r none (rw (a, asc, clashes-told xs zs h a asc, ← told, k))
             (rw (added p q s xs zs) (grown-answer s xs′ zs′ (st .rows + 1) clash new g r (st .reports) commutes e))
             (rw (added p q s xs zs) (grown-holds s xs′ zs′ (st .rows + 1) clash new g r (st .reports) commutes e))
             (record { flat = rw (d, h .rows) at (push .row); ends = rw (d, h .rows) at (push .end); shot = refl })

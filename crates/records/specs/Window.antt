@@ -44,13 +44,13 @@ ifReported (Complete s) f a = a
 ifReported (Decoded r) f a = f r a
 
 abbrev pub onReports {ℓ} : {A : Type ℓ} → (A → A) → (Report → A → A) → Record → Answer → A → A
-onReports empties enters unknown w a = a
-onReports empties enters wrong w a = a
-onReports empties enters (size n x z) w a = ifAccepted w empties a
-onReports empties enters (row p r) w a = a
-onReports empties enters (add u k) w a = a
-onReports empties enters (report budget limit) w a = ifReported w enters a
-onReports empties enters (encodes k) w a = a
+onReports empties enters unknown said a = a
+onReports empties enters wrong said a = a
+onReports empties enters (size n x z) said a = ifAccepted said empties a
+onReports empties enters (row p r) said a = a
+onReports empties enters (add u k) said a = a
+onReports empties enters (report budget limit) said a = ifReported said enters a
+onReports empties enters (encodes k) said a = a
 
 ----------------------------------------------------------------------
 -- The list

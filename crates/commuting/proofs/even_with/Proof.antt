@@ -1,54 +1,31 @@
--- `commuting::even_with` meets its contract: the rows that are left decide. Assumes nothing.
-use mathlib.Core.Path.{_≡_, refl}
-use Prim.Native.Nat.{_-_}
+-- `commuting::even_with` meets its contract: the qubits as a set, and the rows. Assumes nothing.
+use mathlib.Core.Path.{refl}
 use borrow.Author.Needs.{needs}
-use Rattle.code.specs.Lists.{rowsBetween}
-use Rattle.commuting.specs.Even.{evenWith?}
-use Rattle.commuting.proofs.Turns.{even-odd, even-turn, even-end}
+use Rattle.commuting.proofs.Sets.{even-made}
 use Rattle.commuting.proofs.even_with.Statement.{statement}
 use Rattle.commuting.proofs.even_with.Tie as tie
 
-abbrev Inv-loop : tie.InvT-loop
-Inv-loop flat ends qubits stop r₀ r = evenWith? (rowsBetween flat ends r stop) qubits ≡ evenWith? (rowsBetween flat ends r₀ stop) qubits
+slice-aggregate-put-row : tie.Need-slice-aggregate-put-row
+slice-aggregate-put-row c = search needs
 
-abbrev μ-loop : tie.MeasureT-loop
-μ-loop flat ends qubits stop r₀ r = stop - r
+put-row-requires : tie.Need-put-row-requires
+put-row-requires c κs = search needs
 
-loop-holds : tie.Need-loop-holds Inv-loop μ-loop
-loop-holds c = refl
+slice-aggregate-all-even : tie.Need-slice-aggregate-all-even
+slice-aggregate-all-even c = search needs
 
-row-at-requires : tie.Need-row-at-requires Inv-loop μ-loop
-row-at-requires c κs = search needs
+all-even-requires : tie.Need-all-even-requires
+all-even-requires c κs = search needs
 
-share-odd-requires : tie.Need-share-odd-requires Inv-loop μ-loop
-share-odd-requires c κs = search needs
-
-returns : tie.Need-returns Inv-loop μ-loop
-returns c = even-odd _ _ _ _ _ _ (c .before .before .before .before .loop .inv) _ (c .before .before .row-at .ensures) (search needs) _ (c .before .share-odd .ensures) (search needs)
-
-add-r : tie.Need-add-r Inv-loop μ-loop
-add-r c = search needs
-
-loop-less : tie.Need-loop-less Inv-loop μ-loop
-loop-less c = search needs
-
-loop-again : tie.Need-loop-again Inv-loop μ-loop
-loop-again c = even-turn _ _ _ _ _ _ (c .before .before .before .before .loop .inv) _ (c .before .before .row-at .ensures) (search needs) _ (c .before .share-odd .ensures) (search needs)
-
-returns-2 : tie.Need-returns-2 Inv-loop μ-loop
-returns-2 c = even-end _ _ _ _ _ _ (c .before .loop .inv) (search needs)
+returns : tie.Need-returns
+returns c = even-made _ _ _ _ refl (c .before .before .before .put-row .ensures) _ _ (c .all-even .ensures)
 
 pub even-with-spec : {M : Type 1} → statement M
 even-with-spec =
     tie.close
     (tie.spec
-    Inv-loop
-    μ-loop
-    loop-holds
-    row-at-requires
-    share-odd-requires
-    returns
-    add-r
-    loop-less
-    loop-again
-    returns-2)
+    slice-aggregate-put-row
+    put-row-requires
+    slice-aggregate-all-even
+    all-even-requires
+    returns)
