@@ -5,7 +5,7 @@ use mathlib.Core.Logic.{_⊎_, inl, inr, ⊎-elim}
 use mathlib.Core.List.{List, [], _∷_, _++_}
 use Prim.Native.Nat.{ℕ, zero, suc, _+_, _-_, _*_, _%_, _≤_, _<_}
 use native.Mathlib.Omega.{arith}
-use borrow.Author.Tests.{lt-ltb, le-ltb, ltb-true, ltb-false}
+use borrow.Author.Tests.{lt-ltb, ltb-true, ltb-false}
 use lib.Dec.{ltb}
 use lib.ListN.{length, getD, length-append, length-drop, List·getD-append}
 use lib.Seq.{getD-append-seam, getD-drop}
@@ -18,16 +18,11 @@ use Rattle.records.specs.declared.Answer.the-variants.{Refused, Taken, Complete
 use Rattle.records.specs.declared.WindowAnswer.{WindowAnswer}
 use Rattle.records.specs.Records.{Pauli, X, Z, Record, unknown, wrong, size, row, add, report, encodes}
 use Rattle.records.specs.Window.{onReports, oneMore, placeOf, keptOf, Entry, entryOf, entryAt, offset, Entered, counted, sumBelow, countsAt, windowAnswer}
+use Rattle.records.proofs.Window.{kept-few, kept-many}
 use Rattle.claim.specs.Window.{last, reportFor, sumOver, countOver, ReadOf, KeptIn}
 
 ----------------------------------------------------------------------
 -- The number of reports
-
-kept-few : (m : ℕ) → m < 256 → keptOf m ≡ m
-kept-few m h = rw (lt-ltb m 256 h)
-
-kept-many : (m : ℕ) → 256 ≤ m → keptOf m ≡ 256
-kept-many m h = rw (le-ltb m 256 h)
 
 module _ (m n : ℕ) (few : m ≤ 511) (kept : keptOf m ≡ keptOf n) (place : placeOf m ≡ placeOf n) where
   -- Below 256 the number is that of the reports.

@@ -55,14 +55,14 @@ countOver b rs = counted (λ f. sumOver (λ r. f (entryOf (reportFor b r))) rs)
 abbrev pub freshCount : List Report → Counts
 freshCount rs = record { x = countOver X rs; z = countOver Z rs }
 
--- short: the window's list is below its least length.
+-- window: the list at the start, as long as at the read.
 abbrev pub ReadOf : List ℕ → List Report → WindowAnswer → Type 0
 ReadOf window rs a = a ≡ cond (ltb (length window) 2560) (Refused Short) (Counted (freshCount (last 256 rs)))
 
 ----------------------------------------------------------------------
 -- The window holds them
 
--- m: the number of reports in the state. Of the last 256, the k-th to come has place k modulo 256.
+-- m: the number of reports in the state. Of the last 256, the k-th to come, from 0 on, has place k modulo 256; d stands for no report, and is never met.
 pub record KeptIn (rs : List Report) (m : ℕ) (window : List ℕ) : Type 0 where
   pub few : m ≤ 511
   pub kept : keptOf m ≡ keptOf (length rs)

@@ -5,12 +5,12 @@ use mathlib.Core.Logic.{_↔_}
 use mathlib.Core.List.{List, [], _∷_, _++_}
 use Prim.Native.Nat.{ℕ, _≤_}
 use native.Mathlib.Omega.{arith}
-use borrow.Author.Tests.{eq-eqb, eqb-true, lt-ltb}
+use borrow.Author.Tests.{eqb-true, lt-ltb}
 use lib.Dec.{eqb, ltb}
 use lib.ListN.{length}
 use Rattle.binary.specs.Bits.{_⊕_}
 use Rattle.binary.specs.Meaning.{Row, Qubits, All, all?, has, odd, Even, Commute, commute?}
-use Rattle.binary.proofs.Bits.{bit, iff-eq, &&-true}
+use Rattle.binary.proofs.Bits.{bit, eqb-sym, &&-true}
 use Rattle.binary.proofs.Rows.{odd-sum, odd-none, has-below, all-in, all-out}
 use Rattle.code.specs.Lists.{rowsBetween, Flat}
 use Rattle.code.specs.Tests.{Ascending}
@@ -21,9 +21,6 @@ use Rattle.code.proofs.Order.{Distinct, ascending-below, ascending-distinct}
 ----------------------------------------------------------------------
 -- Symmetry
 
-eqb-swap : (p q : ℕ) → eqb p q ≡ eqb q p
-eqb-swap p q = iff-eq (eqb p q) (eqb q p) (λ e. eq-eqb q p (sym (eqb-true p q e))) (λ e. eq-eqb p q (sym (eqb-true q p e)))
-
 -- One more qubit, which the row has not, is added to its set.
 has-more : (p : ℕ) (row : Row) → has row p ≡ false → (q : ℕ) → has (p ∷ row) q ≡ eqb p q ⊕ has row q
 has-more p row h q = bit (eqb p q) (λ e. rw (e, subst (λ (k : ℕ). has row k ≡ false) (eqb-true p q e) h)) (λ e. rw e)
@@ -31,7 +28,7 @@ has-more p row h q = bit (eqb p q) (λ e. rw (e, subst (λ (k : ℕ). has row k 
 -- A row without repeats shares with a single qubit just if it has it.
 odd-one : (p : ℕ) (row : Row) → Distinct row → odd (eqb p) row ≡ has row p
 odd-one p [] d = refl
-odd-one p (q ∷ row) d = ap₂ _⊕_ (eqb-swap p q) (odd-one p row (d .1)) ∙ sym (has-more q row (d .0) p)
+odd-one p (q ∷ row) d = ap₂ _⊕_ (eqb-sym p q) (odd-one p row (d .1)) ∙ sym (has-more q row (d .0) p)
 
 pub odd-symmetric : (a b : Row) → Distinct a → Distinct b → odd (has a) b ≡ odd (has b) a
 odd-symmetric [] b d e = odd-none b

@@ -5,3 +5,4 @@ pub mod Lowest
 pub mod Numbers
 pub mod KindBytes
 pub mod Candidates
+pub mod Window

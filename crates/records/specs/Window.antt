@@ -1,6 +1,7 @@
 -- The last 256 reports (document 02, request h): how they are kept, and what a read of them promises.
 --   onReports     what an answer does to what is known of the reports: a decode that is reported enters, an accepted kind 1 empties, all else leaves it
 --   oneMore       the number of reports that have come, with one more; placeOf: the place of the next; keptOf: how many are kept
+--   wordNumber    the number of a word
 --   Entry         what is kept of a half: the number of its word, and its counts
 --   entryAt       the entry of a half in the window's list
 --   Entered       a report entered into the list

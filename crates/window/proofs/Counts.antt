@@ -26,12 +26,6 @@ digit-small false = omega arith
 pub room-for-one : (a : ℕ) (b : Bool) → a ≤ 65535 * 256 → Fits w32 (a + digit b)
 room-for-one a b h = omega (arith, digit-small b)
 
-pub kept-few : (m : ℕ) → m < 256 → m ≡ keptOf m
-kept-few m h = rw (lt-ltb m 256 h)
-
-pub kept-many : (m : ℕ) → 256 ≤ m → 256 ≡ keptOf m
-kept-many m h = rw (le-ltb m 256 h)
-
 -- None yet.
 pub counts-none : (first : ℕ) (l : List ℕ) → noneYet ≡ countsFrom first 0 l
 unfolding sumBelow
