@@ -110,6 +110,24 @@ row-kept : (flat flat′ ends ends′ : List ℕ) (r : ℕ) → getD ends′ r 0
 unfolding rowAt
 row-kept flat flat′ ends ends′ r stops starts long same = rw (stops, starts, long, same)
 
+-- Rows whose ends stay.
+pub flat-kept : (rows : List Row) (flat ends ends′ : List ℕ) → Flat rows flat ends → length ends′ ≡ length ends
+    → ((r : ℕ) → r < length rows → getD ends′ r 0 ≡ getD ends r 0) → Flat rows flat ends′
+unfolding startOf
+flat-kept rows flat ends ends′ f long same = record { count = omega (arith, f .count); held = still }
+  where
+    starts : (r : ℕ) → r < length rows → startOf ends′ r ≡ startOf ends r
+    starts zero h = refl
+    starts (suc r) h = same r (omega arith)
+
+    still : (r : ℕ) → r < length rows → Held flat ends′ r (getD rows r [])
+    still r h =
+        record {
+          ends-at = same r h ∙ f .held r h .ends-at ∙ ap (λ (s : ℕ). s + length (getD rows r [])) (sym (starts r h));
+          within = omega (arith, same r h, f .held r h .within);
+          is = row-kept flat flat ends ends′ r (same r h) (starts r h) refl refl ∙ f .held r h .is;
+        }
+
 module _ (rows : List Row) (flat ends : List ℕ) (f : Flat rows flat ends) (row : Row) where
   abbrev start : ℕ
   start = startOf ends (length rows)

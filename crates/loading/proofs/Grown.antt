@@ -10,7 +10,8 @@ use Prim.Native.Nat.{ℕ, _+_, _≤_, _<_}
 use native.Mathlib.Omega.{arith}
 use borrow.Author.Tests.{ltb-true, ltb-false, eqb-true, eq-eqb, ne-eqb, not-false}
 use lib.Dec.{eqb, ltb}
-use lib.ListN.{length, length-append}
+use lib.ListN.{length, getD, length-append}
+use lib.Seq.{getD-set-other}
 use Rattle.binary.specs.Meaning.{Row, All, commute?}
 use Rattle.binary.proofs.Bits.{bit, and-out}
 use Rattle.code.specs.Lists.{rowsBetween, Flat}
@@ -18,7 +19,10 @@ use Rattle.code.specs.Push.{room?, Pushed}
 use Rattle.code.specs.Tests.{Ascending}
 use Rattle.commuting.specs.Even.{evenWith?}
 use Rattle.code.proofs.Flat.{flat-none}
-use Rattle.code.proofs.Push.{flat-push, flat-room}
+use Rattle.code.proofs.Push.{push-lengths, flat-push, flat-kept, flat-room}
+use Rattle.incidence.specs.Incidence.{noted, Listed}
+use Rattle.incidence.proofs.Noting.{noted-long}
+use Rattle.incidence.proofs.Listing.{noted-below, listed-next, listed-kept}
 use Rattle.commuting.proofs.Sharing.{commute-told}
 use Rattle.records.specs.declared.Sizes.{Sizes}
 use Rattle.records.specs.declared.Phase.the-variants.{Loading, Ready}
@@ -46,6 +50,7 @@ pub record Grown (s : Sizes) (xs zs : List Row) (rows : ℕ) (clash : Bool) (l :
   pub good-xs : GoodRows (s .n) xs
   pub good-zs : GoodRows (s .n) zs
   pub flat : Flat (xs ++ zs) (l .flat) (l .ends)
+  pub on : Listed (s .n) (xs ++ zs) (l .ends)
   pub flag : clash ≡ not (commute? zs xs)
 
 pub grown-none : (s : Sizes) (l : Lists) → inRange (s .n) (s .x) (s .z) ≡ true → Grown s [] [] 0 false l
@@ -60,6 +65,7 @@ grown-none s l e =
       good-xs = record { ascending = tt; weights = tt };
       good-zs = record { ascending = tt; weights = tt };
       flat = flat-none (l .flat) (l .ends);
+      on = λ some. absurd (omega arith);
       flag = refl;
     }
 
@@ -107,6 +113,7 @@ module _ (s : Sizes) (xs zs : List Row) (rows : ℕ) (clash : Bool) (l : Lists) 
               good-xs = g .good-xs;
               good-zs = g .good-zs;
               flat = g .flat;
+              on = g .on;
               clash = g .flag;
             }
 
@@ -120,6 +127,7 @@ module _ (s : Sizes) (xs zs : List Row) (rows : ℕ) (clash : Bool) (l : Lists) 
               good-zs = g .good-zs;
               commute = not-false (commute? zs xs) (sym (g .flag) ∙ q);
               flat = g .flat;
+              on = g .on;
               spoiled = refl;
               shot = none-among;
             }
@@ -178,16 +186,34 @@ module _ (st : State) (xs zs : List Row) (flat ends shot : List ℕ) (h : Loads 
       rw (commute-told (s .n) (range-out (s .n) (s .x) (s .z) (h .range) .qubits) xs zs flat ends (h .flat) (s .x) (sym (x-done s xs zs t)) q (evenWith? (rowsBetween flat ends 0 (s .x)) q) (h .good-xs .ascending) a refl, h .clash)
       (de-morgan (commute? zs xs) (evenWith? (rowsBetween flat ends 0 (s .x)) q))
 
-  pub row-fits : length q ≤ 16 → 16384 ≤ length flat → 1024 ≤ length ends → room? flat ends (st .rows) q ≡ true
+  pub row-fits : length q ≤ 16 → 16384 ≤ length flat → 16384 ≤ length ends → room? flat ends (st .rows) q ≡ true
   row-fits w long wide =
       let range = range-out (s .n) (s .x) (s .z) (h .range) in
       flat-room (xs ++ zs) flat ends (st .rows) q (h .flat) (h .rows ∙ sym (length-append xs zs))
       (all-both (λ r. length r ≤ 16) xs zs (h .good-xs .weights) (h .good-zs .weights)) w
-      (omega (arith, length-append xs zs, h .some-left, range .xs, range .zs)) long wide
+      (omega (arith, length-append xs zs, h .some-left, range .xs, range .zs)) long (omega arith)
 
-  module _ (flat′ ends′ : List ℕ) (w : length q ≤ 16) (asc : Ascending (s .n) q) (done : Bool) (push : Pushed flat ends (st .rows) q done flat′ ends′) (d : done ≡ true) where
+  module _ (flat′ mid ends′ : List ℕ) (w : length q ≤ 16) (wide : 16384 ≤ length ends) (asc : Ascending (s .n) q) (done : Bool) (push : Pushed flat ends (st .rows) q done flat′ mid) (d : done ≡ true) (put : ends′ ≡ noted (s .n) (st .rows) q mid) where
+    in-place : st .rows ≡ length (xs ++ zs)
+    in-place = h .rows ∙ sym (length-append xs zs)
+
+    limits : (s .n ≤ 1024) × (st .rows < 1024)
+    limits = let range = range-out (s .n) (s .x) (s .z) (h .range) in (range .qubits, omega (arith, h .rows, h .some-left, range .xs, range .zs))
+
+    as-long : length mid ≡ length ends
+    as-long = push-lengths flat ends flat′ mid (st .rows) q done push .1
+
     flat-next : Flat ((xs ++ zs) ++ (q ∷ [])) flat′ ends′
-    flat-next = flat-push (xs ++ zs) flat ends flat′ ends′ (st .rows) q done (h .flat) (h .rows ∙ sym (length-append xs zs)) push d
+    flat-next =
+        flat-kept ((xs ++ zs) ++ (q ∷ [])) flat′ mid ends′ (flat-push (xs ++ zs) flat ends flat′ mid (st .rows) q done (h .flat) in-place push d)
+        (ap length put ∙ noted-long (s .n) (st .rows) mid q)
+        (λ r l. ap (λ (e : List ℕ). getD e r 0) put ∙ noted-below (s .n) (st .rows) q mid r (omega (arith, l, length-append (xs ++ zs) (q ∷ []), in-place, limits)))
+
+    on-next : Listed (s .n) ((xs ++ zs) ++ (q ∷ [])) ends′
+    on-next =
+        rw put (listed-next (s .n) (xs ++ zs) q (st .rows) mid (limits .0) (omega (arith, as-long)) in-place asc
+        (listed-kept (s .n) (xs ++ zs) ends mid (limits .0) wide as-long
+        (λ k l. ap (λ (e : List ℕ). getD e k 0) (rw d at (push .end)) ∙ getD-set-other ends (st .rows) k _ 0 (λ e. omega (arith, limits .1))) (h .on)))
 
     pub grown-row : (p : Pauli) → awaited p (loading s xs zs) ≡ true
         → Grown s (xsWith p q xs) (zsWith p q zs) (st .rows + 1) (clashing p (st .clash) flat ends (s .x) q) (held flat′ ends′ shot)
@@ -201,6 +227,7 @@ module _ (st : State) (xs zs : List Row) (flat ends shot : List ℕ) (h : Loads 
           good-xs = good-last (s .n) xs q (h .good-xs) asc w;
           good-zs = h .good-zs;
           flat = subst (λ (rows : List Row). Flat rows flat′ ends′) (moved xs zs q none) flat-next;
+          on = subst (λ (rows : List Row). Listed (s .n) rows ends′) (moved xs zs q none) on-next;
           flag = clash-told X t asc;
         }
       where
@@ -216,6 +243,7 @@ module _ (st : State) (xs zs : List Row) (flat ends shot : List ℕ) (h : Loads 
           good-xs = h .good-xs;
           good-zs = good-last (s .n) zs q (h .good-zs) asc w;
           flat = rw append-assoc at flat-next;
+          on = subst (λ (rows : List Row). Listed (s .n) rows ends′) (append-assoc xs zs (q ∷ [])) on-next;
           flag = clash-told Z t asc;
         }
 

@@ -14,6 +14,8 @@ use Rattle.binary.proofs.Bits.{bit, never, iff-eq, and-out}
 use Rattle.code.specs.Push.{Pushed}
 use Rattle.code.specs.Tests.{ascending?, Ascending}
 use Rattle.code.proofs.Push.{push-lengths}
+use Rattle.incidence.specs.Incidence.{noted}
+use Rattle.incidence.proofs.Noting.{noted-long}
 use Rattle.records.specs.declared.Sizes.{Sizes}
 use Rattle.records.specs.declared.State.{State}
 use Rattle.records.specs.declared.Refusal.{Refusal}
@@ -175,11 +177,11 @@ module _ (p : Pauli) (st : State) (flat ends shot : List ℕ) (q : Row) (six : �
         loading-only p st l (λ a. Answered false six (row p q) a l l r) t
         (λ xs zs h w. answered-refused false six (row p q) (loading s xs zs) l Clash st r (rw (w, asc, clashes-told xs zs h w asc, ← told, k)) h is)
 
-    pub row-added : (flat′ ends′ : List ℕ) (done : Bool) (r : Reply) → length q ≤ 16 → 16384 ≤ length flat → 1024 ≤ length ends
-        → (eqb (st .rows + 1) (s .x + s .z) && clash) ≡ false → Pushed flat ends (st .rows) q done flat′ ends′ → r ≡ progressOf s (st .rows + 1) clash (st .reports)
+    pub row-added : (flat′ mid ends′ : List ℕ) (done : Bool) (r : Reply) → length q ≤ 16 → 16384 ≤ length flat → 16384 ≤ length ends
+        → (eqb (st .rows + 1) (s .x + s .z) && clash) ≡ false → Pushed flat ends (st .rows) q done flat′ mid → ends′ ≡ noted (s .n) (st .rows) q mid → r ≡ progressOf s (st .rows + 1) clash (st .reports)
         → Does false six (row p q) st l (held flat′ ends′ shot) r
     unfolding Does refusal
-    row-added flat′ ends′ done r w long wide k push e =
+    row-added flat′ mid ends′ done r w long wide k push put e =
         loading-only p st l (λ a. Answered false six (row p q) a l new r) t taken
       where
         new : Lists
@@ -189,12 +191,12 @@ module _ (p : Pauli) (st : State) (flat ends shot : List ℕ) (q : Row) (six : �
             → Answered false six (row p q) (loading s xs zs) l new r
         taken xs zs h a =
             let d : done ≡ true = push .told ∙ row-fits st xs zs flat ends shot h q w long wide in
-            let g = subst (λ (b : Bool). Grown s xs′ zs′ (st .rows + 1) b new) (sym told) (grown-row st xs zs flat ends shot h q flat′ ends′ w asc done push d p a) in
+            let g = subst (λ (b : Bool). Grown s xs′ zs′ (st .rows + 1) b new) (sym told) (grown-row st xs zs flat ends shot h q flat′ mid ends′ w wide asc done push d put p a) in
             let commutes : ltb (st .rows + 1) (s .x + s .z) ≡ false → clash ≡ false = λ b. rw (last b) at k in
             answered false six (row p q) (loading s xs zs) l new r none (rw (a, asc, clashes-told xs zs h a asc, ← told, k))
             (rw (added p q s xs zs) (grown-answer s xs′ zs′ (st .rows + 1) clash new g r (st .reports) commutes e))
             (rw (added p q s xs zs) (grown-holds s xs′ zs′ (st .rows + 1) clash new g r (st .reports) commutes e))
-            (record { flat = rw (d, h .rows) at (push .row); ends = rw (d, h .rows) at (push .end); shot = refl })
+            (record { flat = rw (d, h .rows) at (push .row); ends = rw (d, h .rows) at (put ∙ ap (noted (s .n) (st .rows) q) (push .end)); shot = refl })
           where
             xs′ : List Row
             xs′ = xsWith p q xs
@@ -235,16 +237,16 @@ module _ (p : Pauli) (st : State) (flat ends : List ℕ) (q : Row) (r : Reply) w
           does = λ six shot w long. row-clash p st flat ends shot q six t asc clash told r (sym last ∙ e) is;
         }
 
-    pub add-taken : (flat′ ends′ : List ℕ) (done : Bool) → k ≡ false → Pushed flat ends (st .rows) q done flat′ ends′
+    pub add-taken : (flat′ mid ends′ : List ℕ) (done : Bool) → k ≡ false → Pushed flat ends (st .rows) q done flat′ mid → ends′ ≡ noted (st .sizes .n) (st .rows) q mid
         → r ≡ progressOf (st .sizes) (st .rows + 1) clash (st .reports) → RowTaken p st flat ends q false r flat′ ends′
-    add-taken flat′ ends′ done e push is =
-        let long = push-lengths flat ends flat′ ends′ (st .rows) q done push in
+    add-taken flat′ mid ends′ done e push put is =
+        let long = push-lengths flat ends flat′ mid (st .rows) q done push in
         record {
           flat-long = long .0;
-          ends-long = long .1;
+          ends-long = ap length put ∙ noted-long (st .sizes .n) (st .rows) mid q ∙ long .1;
           refused = λ n i. absurd (taken n i);
           says = says-nothing (row p q) st r refl taken (ap (λ (x : Reply). x .state .reports) is ∙ progress-reports (st .sizes) (st .rows + 1) clash (st .reports));
-          does = λ six shot w wide. row-added p st flat ends shot q six t asc clash told flat′ ends′ done r w (wide refl .0) (wide refl .1) (sym last ∙ e) push is;
+          does = λ six shot w wide. row-added p st flat ends shot q six t asc clash told flat′ mid ends′ done r w (wide refl .0) (wide refl .1) (sym last ∙ e) push put is;
         }
       where
         taken : (n : Refusal) → r .answer ≡ Refused n → ⊥

@@ -65,5 +65,5 @@ pub record RowTaken (p : Pauli) (st : State) (flat ends qubits : List ℕ) (shor
   pub refused : (n : Refusal) → r .answer ≡ Refused n → (flat′ ≡ flat) × (ends′ ≡ ends)
   pub says : Says (row p qubits) st r
   pub does :
-      (six : ℕ → Bool) (shot : List ℕ) → length qubits ≤ 16 → (short ≡ false → (16384 ≤ length flat) × (1024 ≤ length ends))
+      (six : ℕ → Bool) (shot : List ℕ) → length qubits ≤ 16 → (short ≡ false → (16384 ≤ length flat) × (16384 ≤ length ends))
       → Does short six (row p qubits) st (held flat ends shot) (held flat′ ends′ shot) r

@@ -127,6 +127,7 @@ fn add_row(st: State, xrow: bool, flat: &mut [u16], ends: &mut [u16], qubits: &[
     }
     // There is room, but in an altered state or list.
     code::push_row(flat, ends, Row(st.rows), qubits);
+    incidence::note_row(ends, sizes.n, Row(st.rows), qubits);
     progress(sizes, rows, clash, st.reports)
 }
 

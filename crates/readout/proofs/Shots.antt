@@ -236,6 +236,7 @@ holds-opened c s s′ st flat ends old new v e w =
       good-zs = v .good-zs;
       commute = v .commute;
       flat = v .flat;
+      on = v .on;
       spoiled = v .spoiled ∙ e;
       shot = w;
     }

@@ -33,6 +33,7 @@ module _ (st : State) (l : Lists) (spoiled stale : Bool) (reports : ℕ) where
         good-xs = h .good-xs;
         good-zs = h .good-zs;
         flat = h .flat;
+        on = h .on;
         clash = h .clash;
       }
 
@@ -47,6 +48,7 @@ module _ (st : State) (l : Lists) (spoiled stale : Bool) (reports : ℕ) where
         good-zs = h .good-zs;
         commute = h .commute;
         flat = h .flat;
+        on = h .on;
         spoiled = flag;
         shot = shot;
       }

@@ -38,7 +38,7 @@ small c s st l v = range-out (c .n) (length (c .xs)) (length (c .zs)) (v .range)
 
 pub record LongLists (l : Lists) (held size : ℕ) : Type 0 where
   pub flat : 16384 ≤ length (l .flat)
-  pub ends : 1024 ≤ length (l .ends)
+  pub ends : 16384 ≤ length (l .ends)
   pub shot : 2048 ≤ length (l .shot)
   pub window : 2560 ≤ held
   pub work : 10240 ≤ size
@@ -47,7 +47,7 @@ pub long-lists : (l : Lists) (window work : ℕ) → shortLists l window work �
 unfolding shortLists
 long-lists l window work e =
     let flat = ltb (length (l .flat)) 16384 in
-    let ends = ltb (length (l .ends)) 1024 in
+    let ends = ltb (length (l .ends)) 16384 in
     let shot = ltb (length (l .shot)) 2048 in
     let a = or-false (flat || ends || shot || ltb window 2560) (ltb work 10240) e in
     let b = or-false (flat || ends || shot) (ltb window 2560) (a .0) in

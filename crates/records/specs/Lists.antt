@@ -1,5 +1,5 @@
 -- The lists that hold code and shot, and how (document 01, "Lists lent to a decode"; docs/LISTS.md).
---   Lists       the lists that hold code and shot: the rows end to end, their ends, and the shot
+--   Lists       the lists that hold code and shot: the rows end to end, their ends with the rows on each qubit, and the shot
 --   Six         the six lists of a decode
 --   Lent        all that a call is lent beside the state
 --   shortLists  whether a list of code, shot, window or work is below its least length; shortSix: one of the six lists of a decode
@@ -15,6 +15,7 @@ use lib.ListN.{length, getD}
 use Rattle.binary.specs.Meaning.{Row, All, commute?}
 use Rattle.code.specs.Lists.{Flat}
 use Rattle.code.specs.Tests.{Ascending}
+use Rattle.incidence.specs.Incidence.{Listed}
 use Rattle.machine.specs.Lists.{HalfLists}
 use Rattle.records.specs.declared.Sizes.{Sizes}
 use Rattle.records.specs.declared.Phase.the-variants.{Empty, Loading, Ready}
@@ -56,12 +57,12 @@ lentOf lists window work six = record { lists = lists; window = window; work = w
 ----------------------------------------------------------------------
 -- Least lengths
 
--- 512 + 512 rows of up to 16 qubits, their ends, 1,024 qubits and as many rows; ten numbers for each of 256 reports. The first 8,192 elements of the work list are 512 packed rows of 16 words,
+-- 512 + 512 rows of up to 16 qubits; their ends, and 15 elements for the rows on each of 1,024 qubits; 1,024 qubits and as many rows; ten numbers for each of 256 reports. The first 8,192 elements of the work list are 512 packed rows of 16 words,
 -- afterwards 8 words for the rows on each of 1,024 qubits; behind them are the dangling rows of a half, how many they are, of each of 512 rows the number
 -- of its open qubits, and the number of rows on each qubit (docs/LISTS.md).
 unfoldable pub shortLists : Lists → ℕ → ℕ → Bool
 shortLists l window work =
-    ltb (length (l .flat)) 16384 || ltb (length (l .ends)) 1024 || ltb (length (l .shot)) 2048 || ltb window 2560 || ltb work 10240
+    ltb (length (l .flat)) 16384 || ltb (length (l .ends)) 16384 || ltb (length (l .shot)) 2048 || ltb window 2560 || ltb work 10240
 
 abbrev pub shortHalf : HalfLists → ℕ → Bool
 shortHalf l n = ltb (length (l .marks)) n || ltb (length (l .forms)) (4 * n) || ltb (length (l .correction)) n
@@ -119,6 +120,7 @@ pub record Loads (s : Sizes) (xs zs : List Row) (st : State) (l : Lists) : Type 
   pub good-xs : GoodRows (s .n) xs
   pub good-zs : GoodRows (s .n) zs
   pub flat : Flat (xs ++ zs) (l .flat) (l .ends)
+  pub on : Listed (s .n) (xs ++ zs) (l .ends)
   pub clash : st .clash ≡ not (commute? zs xs)
 
 pub record Holds (c : Code) (s : Shot) (st : State) (l : Lists) : Type 0 where
@@ -129,6 +131,7 @@ pub record Holds (c : Code) (s : Shot) (st : State) (l : Lists) : Type 0 where
   pub good-zs : GoodRows (c .n) (c .zs)
   pub commute : commute? (c .zs) (c .xs) ≡ true
   pub flat : Flat (c .xs ++ c .zs) (l .flat) (l .ends)
+  pub on : Listed (c .n) (c .xs ++ c .zs) (l .ends)
   pub spoiled : st .spoiled ≡ s .spoiled
   pub shot : ShotIn (st .stale) c s (l .shot)
 

@@ -15,6 +15,7 @@ use lib.ListN.{length, getD, set}
 use Rattle.binary.specs.Meaning.{Row}
 use Rattle.code.specs.Lists.{startOf}
 use Rattle.code.specs.Push.{written}
+use Rattle.incidence.specs.Incidence.{noted}
 use Rattle.machine.specs.Report.{outcome}
 use Rattle.machine.specs.Lists.{Past, Shows, SameLengths}
 use Rattle.records.specs.declared.State.{State}
@@ -66,10 +67,16 @@ rowsIn empty = 0
 rowsIn (loading s xs zs) = length xs + length zs
 rowsIn (ready c s) = rowCount c
 
--- A row is written after those before it, with its end.
-pub record RowIn (r : Row) (i : ℕ) (old new : Lists) : Type 0 where
+-- How many qubits the code has.
+abbrev pub qubitsIn : History → ℕ
+qubitsIn empty = 0
+qubitsIn (loading s xs zs) = s .n
+qubitsIn (ready c s) = c .n
+
+-- A row is written after those before it, with its end, and put to the rows on each of its qubits.
+pub record RowIn (n : ℕ) (r : Row) (i : ℕ) (old new : Lists) : Type 0 where
   pub flat : new .flat ≡ written (old .flat) (startOf (old .ends) i) r
-  pub ends : new .ends ≡ set (old .ends) i (startOf (old .ends) i + length r)
+  pub ends : new .ends ≡ noted n i r (set (old .ends) i (startOf (old .ends) i + length r))
   pub shot : new .shot ≡ old .shot
 
 -- The shot's list holds the shot; past the qubits and rows of the code, and in the lists of the code, nothing changes.
@@ -89,7 +96,7 @@ abbrev pub LeftBy : Record → History → Lists → Lists → Type 0
 LeftBy unknown a old new = new ≡ old
 LeftBy wrong a old new = new ≡ old
 LeftBy (size n x z) a old new = new ≡ old
-LeftBy (row p r) a old new = RowIn r (rowsIn a) old new
+LeftBy (row p r) a old new = RowIn (qubitsIn a) r (rowsIn a) old new
 LeftBy (add u k) a old new = ShotOf (takes (add u k) a) old new
 LeftBy (report budget limit) a old new = ShotOf a old new
 LeftBy (encodes k) a old new = new ≡ old

@@ -2,7 +2,7 @@
 use machine::HalfReport;
 
 // The version of records, lists and structs, one more whenever one of them changes: a header and an archive tell theirs.
-pub const VERSION: u16 = 7;
+pub const VERSION: u16 = 8;
 
 // Why a record is refused (document 01, the table).
 pub enum Refusal {

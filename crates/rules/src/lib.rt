@@ -76,7 +76,7 @@ pub fn short_lists(flat: &[u16], ends: &[u16], shot: &[u8], window: &[u16], work
     ensures { λ r. ⌜ r ≡ shortLists (held (now (flat .entry)) (now (ends .entry)) (now (shot .entry))) (length (now (window .entry))) (length (now (work .entry))) ⌝ }
 {
     (flat.len() < 16384)
-        | (ends.len() < 1024)
+        | (ends.len() < 16384)
         | (shot.len() < 2048)
         | (window.len() < 2560)
         | (work.len() < 10240)

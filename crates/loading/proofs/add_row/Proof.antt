@@ -39,9 +39,12 @@ returns c =
 push-row-requires : tie.Need-push-row-requires
 push-row-requires c κs = search needs
 
+note-row-requires : tie.Need-note-row-requires
+note-row-requires c κs = search needs
+
 progress-requires : tie.Need-progress-requires
 progress-requires c κs =
-    let few = awaits-few _ _ (c .before .before .before .before .before .before .before .before .before .before .before .before .before .before .before .before .before .before .pre .0) in
+    let few = awaits-few _ _ (c .before .before .before .before .before .before .before .before .before .before .before .before .before .before .before .before .before .before .before .before .before .before .pre .0) in
     omega (arith, few .1 .xs, few .1 .zs)
 
 same-length-3 : tie.Need-same-length-3
@@ -52,10 +55,10 @@ same-length-4 c = search needs
 
 returns-2 : tie.Need-returns-2
 returns-2 c =
-    let at = c .before .before .before .before .before in
+    let at = c .before .before .before .before .before .before .before .before .before in
     let pre = at .before .before .before .before .before .before .before .before .before .before .before .before .before .before .pre in
-    add-taken _ _ _ _ _ _ (pre .0) (pre .1) _ (at .before .before .before .before .before .before .before .before .clashes .ensures) _ (at .before .before .before .before .both .ensures) _ _ _
-    (search needs) (at .push-row .ensures) (c .progress .ensures)
+    add-taken _ _ _ _ _ _ (pre .0) (pre .1) _ (at .before .before .before .before .before .before .before .before .clashes .ensures) _ (at .before .before .before .before .both .ensures) _ _ _ _
+    (search needs) (at .push-row .ensures) (c .before .before .before .note-row .ensures) (c .progress .ensures)
 
 pub add-row-spec : {M : Type 1} → statement M
 add-row-spec =
@@ -70,6 +73,7 @@ add-row-spec =
     same-length-2
     returns
     push-row-requires
+    note-row-requires
     progress-requires
     same-length-3
     same-length-4
