@@ -73,17 +73,27 @@ module _ (c : RowLists) where
       let d : suc (c .first + i) ≡ c .first + (i + 1) = omega arith in
       rw (e, ← d) (take-kept t (was-read c i) (here c i) (checksFrom (c .flat) (c .ends) (c .lit) (suc (c .first + i)) (c .count - (i + 1))) fs)
 
-  -- A row that fails the test is passed over.
-  from-pass : (t : Check → Bool) (i : ℕ) → i < c .count → (fs : Forms) → (was-read c i && t (here c i)) ≡ false → takeUpAll t (from c i) fs ≡ takeUpAll t (from c (i + 1)) fs
-  from-pass t i h fs e = from-next t i h fs ∙ rw e
+  -- A row that changes nothing is passed over.
+  abbrev Still : (Check → Bool) → Forms → ℕ → Type 0
+  Still t fs j = takeIf (was-read c j && t (here c j)) fs (here c j) ≡ some fs
 
+  from-still : (t : Check → Bool) (fs : Forms) (i d : ℕ) → i + d ≤ c .count → ((j : ℕ) → i ≤ j → j < i + d → Still t fs j)
+      → takeUpAll t (from c i) fs ≡ takeUpAll t (from c (i + d)) fs
+  from-still t fs i zero h f = let e : i + 0 ≡ i = omega arith in rw e
+  from-still t fs i (suc d) h f =
+      let e : i + 1 + d ≡ i + suc d = omega arith in
+      from-next t i (omega arith) fs ∙ ap (λ (x : Option Forms). bind x (takeUpAll t (from c (i + 1)))) (f i (omega arith) (omega arith))
+      ∙ from-still t fs (i + 1) d (omega arith) (λ j a b. f j (omega arith) (omega arith)) ∙ ap (λ (k : ℕ). takeUpAll t (from c k) fs) e
+
+  pub all-still : (t : Check → Bool) (fs : Forms) → ((j : ℕ) → j < c .count → Still t fs j) → takeUpAll t (rowChecks c) fs ≡ some fs
+  all-still t fs f =
+      ap (λ (cs : List Check). takeUpAll t cs fs) (sym (from-all c)) ∙ from-still t fs 0 (c .count) (omega arith) (λ j a b. f j (omega arith))
+      ∙ ap (λ (cs : List Check). takeUpAll t cs fs) (from-none c (0 + c .count) (omega arith))
+
+  -- So is a row that fails the test.
   pub from-passed : (t : Check → Bool) (fs : Forms) (i d : ℕ) → i + d ≤ c .count → ((j : ℕ) → i ≤ j → j < i + d → (was-read c j && t (here c j)) ≡ false)
       → takeUpAll t (from c i) fs ≡ takeUpAll t (from c (i + d)) fs
-  from-passed t fs i zero h f = let e : i + 0 ≡ i = omega arith in rw e
-  from-passed t fs i (suc d) h f =
-      let e : i + 1 + d ≡ i + suc d = omega arith in
-      from-pass t i (omega arith) fs (f i (omega arith) (omega arith))
-      ∙ from-passed t fs (i + 1) d (omega arith) (λ j a b. f j (omega arith) (omega arith)) ∙ ap (λ (k : ℕ). takeUpAll t (from c k) fs) e
+  from-passed t fs i d h f = from-still t fs i d h (λ j a b. rw (f j a b))
 
 ----------------------------------------------------------------------
 -- The closed rows of a start

@@ -179,7 +179,7 @@ module _ (budget limit : ℕ) (st : State) (flat ends shot shot′ window work :
           × Shows (c .n) (outcome (half X c s) budget limit) (six .x) (six′ .x) × Shows (c .n) (outcome (half Z c s) budget limit) (six .z) (six′ .z)
       done =
           let good : (q : Pauli) → Obeying (givenOf q (sizesOf c) (new .lists) budget limit)
-          = λ q. obeying c s (new .lists) (v .flat) (left .held) budget limit q (v .good-xs .ascending) (v .good-zs .ascending) (v .commute) in
+          = λ q. obeying c s (new .lists) (v .flat) (left .held) budget limit q (v .good-xs .ascending) (v .good-zs .ascending) (v .commute) (v .on) in
           let t = (subst (λ (z : Sizes). Reports z budget limit (new .lists) work work′ six six′ rep) (v .sizes) d) .decoded (good X) (good Z) in (
             t .0 ∙ ap₂ (λ (x z : Shown). record { x = x .report; z = z .report }) (same X) (same Z),
             subst (λ (u : Shown). Shows (c .n) u (six .x) (six′ .x)) (same X) (t .1),

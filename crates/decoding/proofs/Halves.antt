@@ -2,19 +2,20 @@
 use mathlib.Core.Path.{_≡_, sym, ap, _∙_, subst, fun-ext}
 use mathlib.Core.Bool.{Bool, true, _&&_}
 use mathlib.Core.List.{List, _++_}
-use Prim.Native.Nat.{ℕ, _+_, _-_, _≤_}
+use Prim.Native.Nat.{ℕ, _+_, _-_, _≤_, _<_}
 use native.Mathlib.Nat.{zero-add, add-assoc}
 use native.Mathlib.Omega.{arith}
 use lib.Dec.{eqb, ltb}
-use lib.ListN.{length, getD, take, drop, length-drop}
+use lib.ListN.{length, getD, take, drop, length-drop, length-append}
 use lib.Seq.{getD-drop, take-all}
 use borrow.Author.Tests.{le-leb}
-use Rattle.binary.specs.Meaning.{Row, All, Commute, commute?}
+use Rattle.binary.specs.Meaning.{Row, All, has, Commute, commute?}
 use Rattle.binary.specs.Words.{listed}
 use Rattle.binary.proofs.Bits.{and-in}
 use Rattle.binary.proofs.Tests.{commute-test}
 use Rattle.code.specs.Lists.{rowsFrom, Flat}
 use Rattle.code.specs.Tests.{Ascending}
+use Rattle.incidence.specs.Incidence.{numberOn, Listed}
 use Rattle.code.proofs.Flat.{rows-first, rows-second}
 use Rattle.commuting.proofs.Sharing.{commute-symmetric}
 use Rattle.machine.specs.declared.HalfReport.{HalfReport}
@@ -24,7 +25,7 @@ use Rattle.machine.specs.Lists.{HalfLists}
 use Rattle.halves.specs.declared.HalfAnswer.{HalfAnswer}
 use Rattle.halves.specs.declared.HalfAnswer.the-variants.{Refused, Decoded}
 use Rattle.halves.specs.Starts.{RowsObey}
-use Rattle.scans.specs.Rows.{RowLists}
+use Rattle.scans.specs.Rows.{RowLists, ListedIn}
 use Rattle.halves.specs.Decode.{Given, fitting, Decodes}
 use Rattle.records.specs.declared.Sizes.{Sizes}
 use Rattle.records.specs.Records.{Pauli, X, Z, lost, lit, unread}
@@ -115,8 +116,19 @@ readings-marks e count first shot =
 
 -- Rows in the lists obey where those that they hold do.
 rows-obey : (n : ℕ) {c : RowLists} {other others : ℕ} {own rest : List Row} → rowsFrom (c .flat) (c .ends) (c .first) (c .count) ≡ own → rowsFrom (c .flat) (c .ends) other others ≡ rest
-    → All (Ascending n) own → All (Ascending n) rest → Commute own rest → RowsObey n c other others
-rows-obey n a b d e even = record { own = rw a d; other-kind = rw b e; commute = rw (a, b) even }
+    → All (Ascending n) own → All (Ascending n) rest → Commute own rest → (0 < c .count → (q : ℕ) → q < n → numberOn (c .ends) q ≤ 14 → ListedIn c q)
+    → RowsObey n c other others
+rows-obey n a b d e even on = record { own = record { ascending = rw a d; listed = on }; other-kind = rw b e; commute = rw (a, b) even }
+
+-- The rows of a half among those of the code, on each qubit.
+half-listed : (n : ℕ) (rows : List Row) (c : RowLists) → Flat rows (c .flat) (c .ends) → Listed n rows (c .ends) → c .first + c .count ≤ length rows
+    → 0 < c .count → (q : ℕ) → q < n → numberOn (c .ends) q ≤ 14 → ListedIn c q
+half-listed n rows c f on within some q h few =
+    let w = on (omega arith) q h few in
+    record {
+      once = w .once;
+      are = λ i m. w .are (c .first + i) (omega arith) ∙ ap (λ (r : Row). has r q) (sym (f .held (c .first + i) (omega arith) .is));
+    }
 
 -- The halves of a code and shot that lists hold.
 module _ (c : Code) (s : Shot) (l : Lists) (f : Flat (c .xs ++ c .zs) (l .flat) (l .ends)) (v : HeldShot c s (l .shot)) (budget limit : ℕ) where
@@ -136,8 +148,11 @@ module _ (c : Code) (s : Shot) (l : Lists) (f : Flat (c .xs ++ c .zs) (l .flat) 
       (readings-marks 1 (length (c .xs)) 0 (l .shot) ∙ sym (v .sets (lit X)))
       (readings-marks 2 (length (c .xs)) 0 (l .shot) ∙ sym (v .sets (unread X))))
 
-  pub obeying : (p : Pauli) → All (Ascending (c .n)) (c .xs) → All (Ascending (c .n)) (c .zs) → commute? (c .zs) (c .xs) ≡ true → Obeying (givenOf p (sizesOf c) l budget limit)
-  obeying X xs zs even =
+  pub obeying : (p : Pauli) → All (Ascending (c .n)) (c .xs) → All (Ascending (c .n)) (c .zs) → commute? (c .zs) (c .xs) ≡ true → Listed (c .n) (c .xs ++ c .zs) (l .ends)
+      → Obeying (givenOf p (sizesOf c) l budget limit)
+  obeying X xs zs even on =
       rows-obey (c .n) z-rows x-rows zs xs (commute-test (c .zs) (c .xs) .1 even)
-  obeying Z xs zs even =
+      (half-listed (c .n) (c .xs ++ c .zs) _ f on (omega (arith, length-append (c .xs) (c .zs))))
+  obeying Z xs zs even on =
       rows-obey (c .n) x-rows z-rows xs zs (commute-symmetric (c .n) (c .xs) (c .zs) xs zs .0 (commute-test (c .zs) (c .xs) .1 even))
+      (half-listed (c .n) (c .xs ++ c .zs) _ f on (omega (arith, length-append (c .xs) (c .zs))))

@@ -1,21 +1,20 @@
 -- Everything kept of the rows, row by row. Assumes nothing.
 use mathlib.Core.Path.{_≡_, refl, sym, ap, ap₂, _∙_, subst}
-use mathlib.Core.Bool.{Bool, true, false, not, _&&_, _||_, cond}
+use mathlib.Core.Bool.{Bool, true, false, _&&_, _||_, cond}
 use mathlib.Core.Logic.{_⊎_, inl, ⊎-elim}
 use mathlib.Core.List.{List, [], _∷_}
-use Prim.Native.Nat.{ℕ, suc, _+_, _*_, _/_, _%_, _≤_, _<_}
+use Prim.Native.Nat.{ℕ, suc, _+_, _*_, _/_, _≤_, _<_}
 use native.Mathlib.Numerals.{add-one}
 use native.Mathlib.Omega.{arith}
-use lib.Dec.{eqb, ltb, leb}
+use lib.Dec.{eqb, ltb}
 use lib.ListN.{length, getD, set, drop, drop-of-length-le, length-set}
 use lib.Seq.{drop-cons, getD-set-same, getD-set-other}
-use borrow.Author.Tests.{eq-eqb, ne-eqb, eqb-true, eqb-false, lt-ltb, le-ltb, ltb-true, leb-true}
+use borrow.Author.Tests.{eq-eqb, ne-eqb, eqb-true, eqb-false, lt-ltb, le-ltb, ltb-true}
 use Rattle.binary.specs.Bits.{_⊕_}
 use Rattle.binary.specs.Bits
-use Rattle.binary.specs.Words
 use Rattle.binary.specs.Meaning.{Qubits, Row, has}
-use Rattle.binary.proofs.Bits.{bit, never, not-out, ⊕-false, and-out, tally-same, tally-few}
-use Rattle.binary.proofs.WordBits.{order, bit-zero}
+use Rattle.binary.proofs.Bits.{bit, never, ⊕-false, tally-same, tally-few}
+use Rattle.binary.proofs.WordBits.{order}
 use Rattle.lists.specs.Cleared.{Cleared}
 use Rattle.bitsets.specs.Bitsets.{inSet, Flipped}
 use Rattle.code.specs.Lists.{rowAt}
@@ -26,8 +25,8 @@ use Rattle.machine.specs.Lists.{view}
 use Rattle.scans.specs.Rows.{RowLists, read?, GoodRows}
 use Rattle.scans.proofs.Scanning.{open-below}
 use Rattle.kept.specs.Kept.{rowIn, single?, Changed}
-use Rattle.kept.proofs.Same.{row-of, kept-by}
-use Rattle.filling.specs.Filling.{Emptied, RowAdded, KeptTo, fits?, Fills}
+use Rattle.kept.proofs.Same.{row-of, set-same, set-none}
+use Rattle.filling.specs.Filling.{Emptied, RowAdded, KeptTo}
 
 ----------------------------------------------------------------------
 -- Sets emptied
@@ -58,15 +57,13 @@ module _ (n : ℕ) (marks old : List ℕ) where
         }
 
     pub emptying-end : n ≤ q → n ≤ 1024 → (new : List ℕ) → Cleared 8192 8201 work new → Emptied n marks old new
-    unfolding inSet
     emptying-end h few new c =
         record {
           long = c .long ∙ so .long;
           sets = λ p j e l.
               let b = open-below n marks p e in
-              ap (λ (x : ℕ). Words.bit x (j % 64)) (c .outside (8 * p + j / 64) (inl (omega arith)) ∙ so .zeros p (8 * p + j / 64) (omega arith) e (omega arith) (omega arith))
-              ∙ bit-zero (j % 64);
-          dangling = λ j l. ap (λ (x : ℕ). Words.bit x (j % 64)) (c .inside (8 * 1024 + j / 64) (omega arith) (omega arith)) ∙ bit-zero (j % 64);
+              set-none new p j (c .outside (8 * p + j / 64) (inl (omega arith)) ∙ so .zeros p (8 * p + j / 64) (omega arith) e (omega arith) (omega arith));
+          dangling = λ j l. set-none new 1024 j (c .inside (8 * 1024 + j / 64) (omega arith) (omega arith));
           total = c .inside 8200 (omega arith) (omega arith);
         }
 
@@ -199,12 +196,10 @@ module _ (n i : ℕ) (c : RowLists) (marks old mid : List ℕ) (number : ℕ) (s
       (λ e. rw e (getD-set-other mid (8704 + i) (8704 + j) number 0 (λ t. eqb-false j i e (omega arith)) ∙ a .beyond (8704 + j) (omega arith)))
 
   written-sets : (q j : ℕ) → q ≤ 1024 → j < 512 → inSet written q j ≡ inSet mid q j
-  unfolding inSet
-  written-sets q j b l = ap (λ (x : ℕ). Words.bit x (j % 64)) (getD-set-other mid (8704 + i) (8 * q + j / 64) number 0 (λ e. omega arith))
+  written-sets q j b l = set-same mid written q j (getD-set-other mid (8704 + i) (8 * q + j / 64) number 0 (λ e. omega arith))
 
   written-dangling : (j : ℕ) → j < 512 → inSet written 1024 j ≡ inSet old 1024 j
-  unfolding inSet
-  written-dangling j l = written-sets 1024 j (omega arith) l ∙ ap (λ (x : ℕ). Words.bit x (j % 64)) (a .beyond (8 * 1024 + j / 64) (omega arith))
+  written-dangling j l = written-sets 1024 j (omega arith) l ∙ set-same old mid 1024 j (a .beyond (8 * 1024 + j / 64) (omega arith))
 
   written-total : getD written 8200 0 ≡ getD old 8200 0
   written-total = getD-set-other mid (8704 + i) 8200 number 0 (λ e. omega arith) ∙ a .beyond 8200 (omega arith)
@@ -281,7 +276,7 @@ module _ (n i : ℕ) (c : RowLists) (marks old mid : List ℕ) (number : ℕ) (s
       own : GoodRows n c → Distinct (rowIn c i)
       own rows =
           read-distinct (read? (c .lit) (c .first + i)) (rowAt (c .flat) (c .ends) (c .first + i))
-          (ascending-distinct n (rowAt (c .flat) (c .ends) (c .first + i)) (row-of (Ascending n) (c .flat) (c .ends) (c .first) (c .count) i h rows))
+          (ascending-distinct n (rowAt (c .flat) (c .ends) (c .first + i)) (row-of (Ascending n) (c .flat) (c .ends) (c .first) (c .count) i h (rows .ascending)))
 
       own-test : (x : Bool) → false ⊕ (x && true) ≡ x
       own-test true = refl
@@ -304,47 +299,6 @@ module _ (n i : ℕ) (c : RowLists) (marks old mid : List ℕ) (number : ℕ) (s
 
   pub kept-dangling : number ≡ 1 → (new : List ℕ) → Changed i true written new → (length new ≡ length old) × KeptTo (suc i) n c marks new
   kept-dangling e new d = (changed-too e new d .long, kept-more new (changed-too e new d))
-
-----------------------------------------------------------------------
--- All rows
-
-module _ (n : ℕ) (c : RowLists) (marks old new : List ℕ) where
-  pub fills-not : (told : Bool) → told ≡ fits? n c (length old) → not told ≡ true → new ≡ old → Fills n c marks old new
-  fills-not told i u s =
-      let e : fits? n c (length old) ≡ false = sym i ∙ not-out told u in
-      record { long = ap length s; refused = λ t. s; kept = λ t. never t e; rows = λ t. never t e }
-
-  pub fills : length new ≡ length old → fits? n c (length old) ≡ true → c .count ≤ 512 → KeptTo (c .count) n c marks new → Fills n c marks old new
-  fills same fit few k =
-      record {
-        long = same;
-        refused = λ t. never fit t;
-        kept = λ t. kept-by (isOpen (view n marks)) c new (k .counts) (k .tallied);
-        rows = λ t a. record { on = λ q i e h. k .on a q i e (omega arith) ∙ rw (lt-ltb i (c .count) h) };
-      }
-
--- Sizes and lists that fit.
-pub record Room (n : ℕ) (c : RowLists) (work : ℕ) : Type 0 where
-  pub size : n ≤ 1024
-  pub few : c .count ≤ 512
-  pub last : c .first + c .count ≤ 1024
-  pub words : 9216 ≤ work
-  pub lit : c .first + c .count ≤ length (c .lit)
-
-pub room : (n : ℕ) (c : RowLists) (work : ℕ) → fits? n c work ≡ true → Room n c work
-unfolding fits?
-room n c work t =
-    let d = and-out (leb n 1024 && leb (c .count) 512 && leb (c .first + c .count) 1024 && leb 9216 work) (leb (c .first + c .count) (length (c .lit))) t in
-    let e = and-out (leb n 1024 && leb (c .count) 512 && leb (c .first + c .count) 1024) (leb 9216 work) (d .0) in
-    let f = and-out (leb n 1024 && leb (c .count) 512) (leb (c .first + c .count) 1024) (e .0) in
-    let g = and-out (leb n 1024) (leb (c .count) 512) (f .0) in
-    record { size = leb-true _ _ (g .0); few = leb-true _ _ (g .1); last = leb-true _ _ (f .1); words = leb-true _ _ (e .1); lit = leb-true _ _ (d .1) }
-
-pub fits-told : (n : ℕ) (c : RowLists) (work : ℕ) (told : Bool) → told ≡ fits? n c work → not told ≡ false → fits? n c work ≡ true
-fits-told n c work told e t = bit (fits? n c work) (λ y. y) (λ y. never (ap not (e ∙ y)) t)
-
-pub room-told : (n : ℕ) (c : RowLists) (work : ℕ) (told : Bool) → told ≡ fits? n c work → not told ≡ false → Room n c work
-room-told n c work told e t = room n c work (fits-told n c work told e t)
 
 pub kept-all : (i n : ℕ) (c : RowLists) (marks work : List ℕ) → KeptTo i n c marks work → i ≡ c .count → KeptTo (c .count) n c marks work
 kept-all i n c marks work k e = subst (λ (j : ℕ). KeptTo j n c marks work) e k

@@ -1,1 +1,4 @@
 pub mod KeptRows
+pub mod OpenBelow
+pub mod KeptQubits
+pub mod Fills

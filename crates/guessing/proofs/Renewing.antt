@@ -74,7 +74,7 @@ module _ (n : ℕ) (c : RowLists) (p : ℕ) (o : Qubits) (work₀ : List ℕ) (f
 
     was : openIn o c i ≡ suc left
     was =
-        let d = ascending-distinct n (here c i .row) (row-of (Ascending n) (c .flat) (c .ends) (c .first) (c .count) i h (g .good)) in
+        let d = ascending-distinct n (here c i .row) (row-of (Ascending n) (c .flat) (c .ends) (c .first) (c .count) i h (g .good .ascending)) in
         ap (λ (r : Row). length (part o r)) row-is ∙ one-less o p (here c i .row) d (g .open-p) (on-it .1)
         ∙ ap suc (sym (is ∙ ap (λ (r : Row). length (part o′ r)) row-is))
 
@@ -173,7 +173,7 @@ module _ (n : ℕ) (flat ends : List ℕ) (first count p : ℕ) (work₀ : List 
               let tight = weight-small o c q count count few few (mixed n c p o work₀ few′ g i q) in
               let inside = g .inside p (g .open-p) in
               let small : p < 1024 = omega arith in
-              v .added (row-of (Ascending n) flat ends first count i h (g .good)) q (g .inside q t) (omega arith) ∙ ap (λ (s : ℕ). addedAt s (has (rowAt flat ends (first + i)) q) (weightOf work q)) e
+              v .added (row-of (Ascending n) flat ends first count i h (g .good .ascending)) q (g .inside q t) (omega arith) ∙ ap (λ (s : ℕ). addedAt s (has (rowAt flat ends (first + i)) q) (weightOf work q)) e
               ∙ mixed-row n c p o work₀ few′ g i h (sym (same-set work (a .alone .below) small i (omega arith)) ∙ a .found h) left (is ∙ a .alone .below (8704 + i) (omega arith) ∙ g .kept .counts i h) q (weightOf work q) old
               ∙ mixed-pass n c p o work₀ few′ g (i + 1) i′ q (w .0) (w .1) (λ j l m. sym (same-set work′ (alone .below) small j (omega arith)) ∙ f .skipped j l m);
         }

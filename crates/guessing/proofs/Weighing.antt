@@ -142,7 +142,7 @@ module _ (n : ℕ) (flat ends : List ℕ) (first count : ℕ) (work₀ work : Li
         let old = a .so lit good o inside k q t in
         let small = weight-small o c q i i (omega arith) (omega arith) (pairIn o c q) in
         rw (add-one i)
-        (v .added (row-of (Ascending n) flat ends first count i h good) q (inside q t) (omega arith) ∙ ap (λ (s : ℕ). addedAt s (has (rowAt flat ends (first + i)) q) (weightOf work q)) e
+        (v .added (row-of (Ascending n) flat ends first count i h (good .ascending)) q (inside q t) (omega arith) ∙ ap (λ (s : ℕ). addedAt s (has (rowAt flat ends (first + i)) q) (weightOf work q)) e
         ∙ shared o q t number (was-read c i) (rowAt flat ends (first + i)) (tally i (pairIn o c q)) (tally i (hasIn c q)) (weightOf work q)
         (is ∙ a .alone .below (8704 + i) (omega arith) ∙ k .counts i h) old (omega arith));
   }

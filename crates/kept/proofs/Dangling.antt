@@ -54,15 +54,20 @@ module _ (o : Qubits) (c : RowLists) where
   one-read true row e = refl
   one-read false row e = absurd (omega arith)
 
-  module _ (r : ℕ) (h : r < c .count) (dangles : dangles? o c r ≡ true) (f : (j : ℕ) → j < r → dangles? o c j ≡ false) (i : ℕ) (first : OpenFrom o (here c r .row) 0 i) where
-    row-is : rowIn c r ≡ here c r .row
+  module _ (r : ℕ) (h : r < c .count) (dangles : dangles? o c r ≡ true) (f : (j : ℕ) → j < r → dangles? o c j ≡ false) where
+    pub row-is : rowIn c r ≡ here c r .row
     row-is = one-read (was-read c r) (here c r .row) (eqb-true _ 1 dangles)
 
-    one : length (part o (here c r .row)) ≡ 1
-    one = sym (ap (λ (x : List ℕ). length (part o x)) row-is) ∙ eqb-true _ 1 dangles
+    -- The row whose open qubit is p.
+    pub dangling-only : (p : ℕ) → part o (here c r .row) ≡ p ∷ [] → dangling o (rowChecks c) ≡ some (p, here c r)
+    dangling-only p e = to r (omega arith) f ∙ from-here r h ∙ rw (row-is, e)
 
-    pub found-inside : i < length (here c r .row)
-    found-inside = one-inside o (here c r .row) i first one
+    module _ (i : ℕ) (first : OpenFrom o (here c r .row) 0 i) where
+      one : length (part o (here c r .row)) ≡ 1
+      one = sym (ap (λ (x : List ℕ). length (part o x)) row-is) ∙ eqb-true _ 1 dangles
 
-    pub dangling-found : dangling o (rowChecks c) ≡ some (getD (here c r .row) i 0, here c r)
-    dangling-found = to r (omega arith) f ∙ from-here r h ∙ rw (row-is, one-open o (here c r .row) i first one)
+      pub found-inside : i < length (here c r .row)
+      found-inside = one-inside o (here c r .row) i first one
+
+      pub dangling-found : dangling o (rowChecks c) ≡ some (getD (here c r .row) i 0, here c r)
+      dangling-found = dangling-only (getD (here c r .row) i 0) (one-open o (here c r .row) i first one)

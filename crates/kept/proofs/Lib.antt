@@ -1,4 +1,5 @@
-pub mod Tallying
 pub mod Same
+pub mod Tallying
 pub mod Lowering
+pub mod Raising
 pub mod Dangling

@@ -2,12 +2,11 @@
 use mathlib.Core.Path.{_≡_, refl, sym, ap, _∙_, subst}
 use mathlib.Core.Bool.{Bool, true, false, cond}
 use mathlib.Core.List.{List, [], _∷_}
-use Prim.Native.Nat.{ℕ, suc, _+_, _*_, _/_, _%_, _≤_, _<_}
+use Prim.Native.Nat.{ℕ, suc, _+_, _*_, _/_, _≤_, _<_}
 use native.Mathlib.Omega.{arith}
 use lib.Dec.{eqb}
 use lib.ListN.{length, getD}
 use borrow.Author.Tests.{eq-eqb, ne-eqb, eqb-true, eqb-false}
-use Rattle.binary.specs.Words
 use Rattle.binary.specs.Meaning.{Qubits, Row, has}
 use Rattle.binary.proofs.Bits.{bit, never, or-out}
 use Rattle.binary.proofs.UpTo.{upTo, up-below, up-from, up-pass, up-on}
@@ -18,8 +17,8 @@ use Rattle.code.proofs.Order.{Distinct, ascending-distinct}
 use Rattle.machine.specs.Machine.{put, part, empty?}
 use Rattle.scans.specs.Rows.{RowLists, GoodRows}
 use Rattle.scans.proofs.Checks.{here, was-read}
-use Rattle.kept.specs.Kept.{rowIn, openIn, Kept, RowsOn, Tallied, Lowered, LoweredRows}
-use Rattle.kept.proofs.Same.{row-of, kept-by, tallied-by}
+use Rattle.kept.specs.Kept.{rowIn, openIn, Kept, RowsOn, Tallied, Numbered, Lowered, LoweredRows}
+use Rattle.kept.proofs.Same.{row-of, set-same, kept-by, tallied-by}
 
 ----------------------------------------------------------------------
 -- Open qubits of a row, before and after one is settled
@@ -33,10 +32,19 @@ not-has o p (q ∷ r) e =
     let d : eqb p q ≡ false = ne-eqb p q (λ i. eqb-false q p a (sym i)) in
     rw (d, not-has o p r b)
 
--- A row that has it, and has no qubit twice, has one open qubit less.
-pub one-less : (o : Qubits) (p : ℕ) (r : Row) → Distinct r → o p ≡ true → has r p ≡ true → length (part o r) ≡ suc (length (part (put p false o) r))
-one-less o p [] d t e = never e refl
-one-less o p (q ∷ r) d t e =
+-- The qubits of a list added up, each with a weight: with weight 1 they are counted.
+abbrev pub summed : (ℕ → ℕ) → List ℕ → ℕ
+summed w [] = 0
+summed w (q ∷ l) = w q + summed w l
+
+pub length-summed : (l : List ℕ) → length l ≡ summed (λ q. 1) l
+length-summed [] = refl
+length-summed (q ∷ l) = let rest = length-summed l in omega (arith, rest)
+
+-- A row that has it, and has no qubit twice, has its weight less in its open qubits: one open qubit less.
+pub summed-less : (w : ℕ → ℕ) (o : Qubits) (p : ℕ) (r : Row) → Distinct r → o p ≡ true → has r p ≡ true → summed w (part o r) ≡ w p + summed w (part (put p false o) r)
+summed-less w o p [] d t e = never e refl
+summed-less w o p (q ∷ r) d t e =
     bit (eqb q p)
     (λ u. let s = eqb-true q p u in
     let gone : has r p ≡ false = subst (λ (x : ℕ). has r x ≡ false) s (d .0) in
@@ -44,8 +52,11 @@ one-less o p (q ∷ r) d t e =
     (λ u.
     let rest : has r p ≡ true = rw u at e in
     let other : eqb p q ≡ false = ne-eqb p q (λ i. eqb-false q p u (sym i)) in
-    let less = one-less o p r (d .1) t rest in
-    rw other (bit (o q) (λ y. rw y (ap suc less)) (λ y. rw y less)))
+    let less = summed-less w o p r (d .1) t rest in
+    rw other (bit (o q) (λ y. rw y (omega (arith, less))) (λ y. rw y less)))
+
+pub one-less : (o : Qubits) (p : ℕ) (r : Row) → Distinct r → o p ≡ true → has r p ≡ true → length (part o r) ≡ suc (length (part (put p false o) r))
+one-less o p r d t e = omega (arith, length-summed (part o r), summed-less (λ q. 1) o p r d t e, length-summed (part (put p false o) r))
 
 -- A row that has an open qubit is not closed.
 pub has-open : (o : Qubits) (p : ℕ) (r : Row) → o p ≡ true → has r p ≡ true → empty? (part o r) ≡ false
@@ -82,11 +93,10 @@ module _ (n : ℕ) (c : RowLists) (p : ℕ) (o : Qubits) (work₀ : List ℕ) (s
   Rows work = (k : ℕ) → k < 8192 → getD work k 0 ≡ getD work₀ k 0
 
   pub on-row : (work : List ℕ) → Rows work → (j : ℕ) → j < c .count → inSet work p j ≡ has (rowIn c j) p
-  unfolding inSet
-  on-row work same j h = ap (λ (x : ℕ). Words.bit x (j % 64)) (same (8 * p + j / 64) (omega arith)) ∙ g .on .on p j (g .open-p) h
+  on-row work same j h = set-same work₀ work p j (same (8 * p + j / 64) (omega arith)) ∙ g .on .on p j (g .open-p) h
 
   own : (j : ℕ) → j < c .count → Distinct (rowAt (c .flat) (c .ends) (c .first + j))
-  own j h = ascending-distinct n (rowAt (c .flat) (c .ends) (c .first + j)) (row-of (Ascending n) (c .flat) (c .ends) (c .first) (c .count) j h (g .good))
+  own j h = ascending-distinct n (rowAt (c .flat) (c .ends) (c .first + j)) (row-of (Ascending n) (c .flat) (c .ends) (c .first) (c .count) j h (g .good .ascending))
 
   -- Rows that are not on the qubit are passed over.
   pub lowering-pass : (i i′ : ℕ) (work : List ℕ) → Rows work → Lowering c p o i work → i ≤ i′ → i′ ≤ c .count
@@ -114,8 +124,8 @@ module _ (n : ℕ) (c : RowLists) (p : ℕ) (o : Qubits) (work₀ : List ℕ) (s
     was-open : getD work (8704 + i) 0 ≡ suc (length (part o′ (here c i .row)))
     was-open = s .counts i h ∙ up-from (openIn o′ c) (openIn o c) i i (omega arith) ∙ rw row-is (one-less o p (here c i .row) (own i h) (g .open-p) (on-it .1))
 
-    lowered : (number + 1 ≡ getD work (8704 + i) 0) × ((j : ℕ) → j < 512 → getD work′ (8704 + j) 0 ≡ cond (eqb i j) number (getD work (8704 + j) 0))
-    lowered = low .counts long (omega arith) (let z = was-open in omega arith)
+    lowered : (number + 1 ≡ getD work (8704 + i) 0) × Numbered i number work work′
+    lowered = low .lowered long (omega arith) (let z = was-open in omega arith)
 
     pub number-is : number ≡ length (part o′ (here c i .row))
     number-is = let z = was-open in let y = lowered .0 in omega arith
@@ -124,11 +134,11 @@ module _ (n : ℕ) (c : RowLists) (p : ℕ) (o : Qubits) (work₀ : List ℕ) (s
     rows-on k l = low .below k l ∙ same k l
 
     pub lowering-row : Lowering c p o (i + 1) work′
-    lowering-row = record { counts = counts-on; tallied = low .tallied long (omega arith) (let z = was-open in omega arith) (c .count) few h (s .tallied) }
+    lowering-row = record { counts = counts-on; tallied = lowered .1 .tallied (c .count) few h (s .tallied) }
       where
         counts-on : (j : ℕ) → j < c .count → getD work′ (8704 + j) 0 ≡ upTo (i + 1) (openIn o′ c) (openIn o c) j
         counts-on j l =
-            lowered .1 j (omega arith) ∙ bit (eqb i j)
+            lowered .1 .counts j (omega arith) ∙ bit (eqb i j)
             (λ e. let d = eqb-true i j e in rw (e, ← d) (number-is ∙ ap (λ (r : Row). length (part o′ r)) (sym row-is) ∙ sym (up-below (openIn o′ c) (openIn o c) (i + 1) i (omega arith))))
             (λ e. rw e (s .counts j l ∙ sym (up-on (openIn o′ c) (openIn o c) i j e)))
 

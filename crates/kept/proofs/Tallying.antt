@@ -1,19 +1,19 @@
--- A row that joins the dangling rows or leaves them, and a row's number lowered. Assumes nothing.
+-- A row that joins the dangling rows or leaves them, and a row's number set. Assumes nothing.
 use mathlib.Core.Path.{_≡_, refl, sym, ap, _∙_}
 use mathlib.Core.Bool.{Bool, true, false, not, cond}
 use mathlib.Core.List.{List}
-use Prim.Native.Nat.{ℕ, suc, _+_, _-_, _*_, _/_, _%_, _≤_, _<_}
+use Prim.Native.Nat.{ℕ, suc, _+_, _-_, _*_, _/_, _≤_, _<_}
 use native.Mathlib.Omega.{arith}
 use lib.Dec.{eqb, ltb}
 use lib.ListN.{length, getD, set, length-set}
 use lib.Seq.{getD-set-same, getD-set-other}
 use borrow.Author.Tests.{eq-eqb, ne-eqb, eqb-true, eqb-false, lt-ltb, le-ltb}
 use Rattle.binary.specs.Bits.{_⊕_, tally}
-use Rattle.binary.specs.Words
 use Rattle.binary.proofs.Bits.{bit, ⊕-false, not-out, below-out, tally-same, tally-few, none-counted}
 use Rattle.binary.proofs.Weights.{tally-up}
 use Rattle.bitsets.specs.Bitsets.{inSet, NextIn, Flipped}
-use Rattle.kept.specs.Kept.{single?, Tallied, Changed, Changes, Lowered, Lowest, dangles?}
+use Rattle.kept.specs.Kept.{single?, Tallied, Changed, Changes, Numbered, Lowered, Raised, Lowest, dangles?}
+use Rattle.kept.proofs.Same.{set-same}
 
 ----------------------------------------------------------------------
 -- The set and the total
@@ -22,12 +22,11 @@ module _ (i : ℕ) (joins : Bool) (old mid new : List ℕ) (few : i < 512) (long
   pub changed : length new ≡ length mid → ((k : ℕ) → (8200 ≡ k → ⊥) → getD new k 0 ≡ getD mid k 0)
       → getD new 8200 0 ≡ cond joins (cond (ltb (getD mid 8200 0) 512) (getD mid 8200 0 + 1) (getD mid 8200 0)) (getD mid 8200 0 - 1)
       → Changed i joins old new
-  unfolding inSet
   changed same others told =
       let total : getD mid 8200 0 ≡ getD old 8200 0 = f .beyond 8200 (omega arith) in
       record {
         long = same ∙ f .long;
-        sets = λ t j h l. ap (λ (x : ℕ). Words.bit x (j % 64)) (others (8 * t + j / 64) (λ e. omega arith)) ∙ f .flipped few (omega arith) t j l;
+        sets = λ t j h l. set-same mid new t j (others (8 * t + j / 64) (λ e. omega arith)) ∙ f .flipped few (omega arith) t j l;
         total = rw (← total) told;
         below = λ k h. others k (λ e. omega arith) ∙ f .rest k (omega arith);
         beyond = λ k h. others k (λ e. omega arith) ∙ f .beyond k (omega arith);
@@ -58,22 +57,28 @@ module _ (i : ℕ) (joins : Bool) (old new : List ℕ) where
   unchanged f e = record { long = ap length e; changed = λ a b. absurd (f a b); refused = λ g. e }
 
 ----------------------------------------------------------------------
--- A number lowered
+-- A row's number set
+
+-- Everything beside the numbers and the dangling rows stays.
+pub record Renumbered (i number : ℕ) (old new : List ℕ) : Type 0 where
+  pub long : length new ≡ length old
+  pub below : (k : ℕ) → k < 8192 → getD new k 0 ≡ getD old k 0
+  pub past : (k : ℕ) → 9216 ≤ k → getD new k 0 ≡ getD old k 0
+  pub numbered : Numbered i number old new
 
 -- Where the row's number is set, and nothing else.
-module _ (i left : ℕ) (old : List ℕ) (few : i < 512) (long : 9216 ≤ length old) (is : left + 1 ≡ getD old (8704 + i) 0) where
+module _ (i number : ℕ) (old : List ℕ) (few : i < 512) (long : 9216 ≤ length old) where
   abbrev mid : List ℕ
-  mid = set old (8704 + i) left
+  mid = set old (8704 + i) number
 
-  mid-count : (j : ℕ) → getD mid (8704 + j) 0 ≡ cond (eqb i j) left (getD old (8704 + j) 0)
+  mid-count : (j : ℕ) → getD mid (8704 + j) 0 ≡ cond (eqb i j) number (getD old (8704 + j) 0)
   mid-count j =
       bit (eqb i j)
-      (λ e. let same = eqb-true i j e in rw (e, ← same) (getD-set-same old (8704 + i) left 0 (omega arith)))
-      (λ e. rw e (getD-set-other old (8704 + i) (8704 + j) left 0 (λ t. eqb-false i j e (omega arith))))
+      (λ e. let same = eqb-true i j e in rw (e, ← same) (getD-set-same old (8704 + i) number 0 (omega arith)))
+      (λ e. rw e (getD-set-other old (8704 + i) (8704 + j) number 0 (λ t. eqb-false i j e (omega arith))))
 
   mid-sets : (t j : ℕ) → t ≤ 1024 → j < 512 → inSet mid t j ≡ inSet old t j
-  unfolding inSet
-  mid-sets t j h l = ap (λ (x : ℕ). Words.bit x (j % 64)) (getD-set-other old (8704 + i) (8 * t + j / 64) left 0 (λ e. omega arith))
+  mid-sets t j h l = set-same old mid t j (getD-set-other old (8704 + i) (8 * t + j / 64) number 0 (λ e. omega arith))
 
   -- The numbers of a list that has those of mid.
   abbrev Counts : List ℕ → Type 0
@@ -82,36 +87,26 @@ module _ (i left : ℕ) (old : List ℕ) (few : i < 512) (long : 9216 ≤ length
   single-other : (new : List ℕ) → Counts new → (j : ℕ) → eqb i j ≡ false → single? new j ≡ single? old j
   single-other new c j e = rw (c j, mid-count j, e)
 
-  single-own : (new : List ℕ) → Counts new → single? new i ≡ eqb left 1
+  single-own : (new : List ℕ) → Counts new → single? new i ≡ eqb number 1
   single-own new c = rw (c i, mid-count i, eq-eqb i i refl)
 
-  was : single? old i ≡ eqb (left + 1) 1
-  was = rw (← is)
-
-  lowered : (new : List ℕ) → length new ≡ length old → ((k : ℕ) → k < 8192 → getD new k 0 ≡ getD old k 0) → ((k : ℕ) → 9216 ≤ k → getD new k 0 ≡ getD old k 0) → Counts new
-      → ((n : ℕ) → n ≤ 512 → i < n → Tallied n old → Tallied n new) → Lowered i old new left
-  lowered new same below past c t =
-      record {
-        long = same;
-        below = below;
-        past = past;
-        counts = λ a b d. (is, λ j h. c j ∙ mid-count j);
-        tallied = λ a b d n h l v. t n h l v;
-      }
+  renumbered : (new : List ℕ) → length new ≡ length old → ((k : ℕ) → k < 8192 → getD new k 0 ≡ getD old k 0) → ((k : ℕ) → 9216 ≤ k → getD new k 0 ≡ getD old k 0) → Counts new
+      → ((n : ℕ) → n ≤ 512 → i < n → Tallied n old → Tallied n new) → Renumbered i number old new
+  renumbered new same below past c t = record { long = same; below = below; past = past; numbered = record { counts = λ j h. c j ∙ mid-count j; tallied = t } }
 
   mid-below : (k : ℕ) → k < 8192 → getD mid k 0 ≡ getD old k 0
-  mid-below k h = getD-set-other old (8704 + i) k left 0 (λ e. omega arith)
+  mid-below k h = getD-set-other old (8704 + i) k number 0 (λ e. omega arith)
 
   mid-past : (k : ℕ) → 9216 ≤ k → getD mid k 0 ≡ getD old k 0
-  mid-past k h = getD-set-other old (8704 + i) k left 0 (λ e. omega arith)
+  mid-past k h = getD-set-other old (8704 + i) k number 0 (λ e. omega arith)
 
   total-mid : getD mid 8200 0 ≡ getD old 8200 0
-  total-mid = getD-set-other old (8704 + i) 8200 left 0 (λ e. omega arith)
+  total-mid = getD-set-other old (8704 + i) 8200 number 0 (λ e. omega arith)
 
   -- The row neither dangled nor dangles.
-  pub lowered-more : 2 ≤ left → Lowered i old mid left
-  lowered-more h =
-      lowered mid (length-set old (8704 + i) left) mid-below mid-past (λ j. refl)
+  pub dangles-never : (number ≡ 1 → ⊥) → (getD old (8704 + i) 0 ≡ 1 → ⊥) → Renumbered i number old mid
+  dangles-never now then =
+      renumbered mid (length-set old (8704 + i) number) mid-below mid-past (λ j. refl)
       (λ n a b v. record {
         dangling = λ j l. mid-sets 1024 j (omega arith) (omega arith) ∙ v .dangling j l ∙ sym (same j);
         total = total-mid ∙ v .total ∙ sym (tally-same n (single? old) (single? mid) (λ j l. same j));
@@ -120,7 +115,7 @@ module _ (i left : ℕ) (old : List ℕ) (few : i < 512) (long : 9216 ≤ length
       same : (j : ℕ) → single? mid j ≡ single? old j
       same j =
           bit (eqb i j)
-          (λ e. let d = eqb-true i j e in rw (← d) (single-own mid (λ k. refl) ∙ ne-eqb left 1 (λ t. omega arith) ∙ sym (was ∙ ne-eqb (left + 1) 1 (λ t. omega arith))))
+          (λ e. let d = eqb-true i j e in rw (← d) (single-own mid (λ k. refl) ∙ ne-eqb number 1 now ∙ sym (ne-eqb (getD old (8704 + i) 0) 1 then)))
           (λ e. single-other mid (λ k. refl) j e)
 
   -- The row dangles from now on, or no longer.
@@ -139,26 +134,26 @@ module _ (i left : ℕ) (old : List ℕ) (few : i < 512) (long : 9216 ≤ length
         turn true = refl
         turn false = refl
 
-    turned-over : single? new i ≡ not (single? old i) → ((n : ℕ) → n ≤ 512 → i < n → Tallied n old → getD new 8200 0 ≡ tally n (single? new)) → Lowered i old new left
+    turned-over : single? new i ≡ not (single? old i) → ((n : ℕ) → n ≤ 512 → i < n → Tallied n old → getD new 8200 0 ≡ tally n (single? new)) → Renumbered i number old new
     turned-over turned t =
-        lowered new (c .long ∙ length-set old (8704 + i) left) (λ k h. c .below k h ∙ mid-below k h) (λ k h. c .beyond k (omega arith) ∙ mid-past k h) new-counts
+        renumbered new (c .long ∙ length-set old (8704 + i) number) (λ k h. c .below k h ∙ mid-below k h) (λ k h. c .beyond k (omega arith) ∙ mid-past k h) new-counts
         (λ n a b v. record { dangling = flipped turned n a v; total = t n a b v })
 
-  pub lowered-none : left ≡ 0 → (new : List ℕ) → Changed i false mid new → Lowered i old new left
-  lowered-none z new c =
+  pub dangles-no-longer : (number ≡ 1 → ⊥) → getD old (8704 + i) 0 ≡ 1 → (new : List ℕ) → Changed i false mid new → Renumbered i number old new
+  dangles-no-longer now-not then-one new c =
       let counts = new-counts false new c in
-      let now : single? new i ≡ false = single-own new counts ∙ ne-eqb left 1 (λ t. omega arith) in
-      let then : single? old i ≡ true = was ∙ eq-eqb (left + 1) 1 (omega arith) in
+      let now : single? new i ≡ false = single-own new counts ∙ ne-eqb number 1 now-not in
+      let then : single? old i ≡ true = eq-eqb (getD old (8704 + i) 0) 1 then-one in
       turned-over false new c (now ∙ sym (ap not then))
       (λ n a b v. let up = tally-up n i (single? new) (single? old) b now then (λ j e. sym (single-other new counts j e)) in
       let told : getD mid 8200 0 ≡ suc (tally n (single? new)) = total-mid ∙ v .total ∙ up in
       c .total ∙ rw told (omega arith))
 
-  pub lowered-one : left ≡ 1 → (new : List ℕ) → Changed i true mid new → Lowered i old new left
-  lowered-one z new c =
+  pub dangles-now : number ≡ 1 → (getD old (8704 + i) 0 ≡ 1 → ⊥) → (new : List ℕ) → Changed i true mid new → Renumbered i number old new
+  dangles-now now-one then-not new c =
       let counts = new-counts true new c in
-      let now : single? new i ≡ true = single-own new counts ∙ eq-eqb left 1 z in
-      let then : single? old i ≡ false = was ∙ ne-eqb (left + 1) 1 (λ t. omega arith) in
+      let now : single? new i ≡ true = single-own new counts ∙ eq-eqb number 1 now-one in
+      let then : single? old i ≡ false = ne-eqb (getD old (8704 + i) 0) 1 then-not in
       turned-over true new c (now ∙ sym (ap not then))
       (λ n a b v.
       let up = tally-up n i (single? old) (single? new) b then now (λ j e. single-other new counts j e) in
@@ -167,9 +162,20 @@ module _ (i left : ℕ) (old : List ℕ) (few : i < 512) (long : 9216 ≤ length
       c .total ∙ rw (told, lt-ltb (tally n (single? old)) 512 (omega arith)) (omega arith))
 
 module _ (i : ℕ) (old : List ℕ) where
+  pub lowered : (left : ℕ) → left + 1 ≡ getD old (8704 + i) 0 → (new : List ℕ) → Renumbered i left old new → Lowered i old new left
+  lowered left is new r = record { long = r .long; below = r .below; past = r .past; lowered = λ a b d. (is, r .numbered) }
+
   -- Where the list is short, there is no such row, or its number is 0.
   pub lowered-not : (9216 ≤ length old → i < 512 → 1 ≤ getD old (8704 + i) 0 → ⊥) → Lowered i old old 0
-  lowered-not f = record { long = refl; below = λ k h. refl; past = λ k h. refl; counts = λ a b d. absurd (f a b d); tallied = λ a b d. absurd (f a b d) }
+  lowered-not f = record { long = refl; below = λ k h. refl; past = λ k h. refl; lowered = λ a b d. absurd (f a b d) }
+
+  pub raised : i < 512 → 9216 ≤ length old → getD old (8704 + i) 0 < 1024 → (new : List ℕ) → Renumbered i (getD old (8704 + i) 0 + 1) old new → Raised i old new
+  raised few long less new r =
+      record { long = r .long; below = r .below; past = r .past; raised = λ a b d. r .numbered; refused = λ f. absurd (f long few less) }
+
+  -- Where the list is short, there is no such row, or its number is not below 1024.
+  pub raised-not : (9216 ≤ length old → i < 512 → getD old (8704 + i) 0 < 1024 → ⊥) → Raised i old old
+  raised-not f = record { long = refl; below = λ k h. refl; past = λ k h. refl; raised = λ a b d. absurd (f a b d); refused = λ g. refl }
 
 ----------------------------------------------------------------------
 -- The lowest dangling row

@@ -6,7 +6,9 @@
 --   RowsOn     the rows on each open qubit
 --   Tallied    the dangling rows are those whose kept number is 1
 --   Changes    a row joins the dangling rows, or leaves them
+--   Numbered   a row has another number, and the dangling rows are told by it
 --   Lowered    a row has an open qubit less; LoweredRows: each row on a qubit
+--   Raised     a row has an open qubit more
 --   Lowest     the lowest dangling row
 use mathlib.Core.Path.{_≡_}
 use mathlib.Core.Bool.{Bool, true, false, _&&_, cond}
@@ -63,14 +65,25 @@ pub record Changes (i : ℕ) (joins : Bool) (old new : List ℕ) : Type 0 where
   pub changed : 9216 ≤ length old → i < 512 → Changed i joins old new
   pub refused : (9216 ≤ length old → i < 512 → ⊥) → new ≡ old
 
--- The rows on the qubits stay. Where the list is long enough and the row's kept number is not 0, that number is one less, and the dangling rows are told anew.
+-- Row i has this number, the other rows keep theirs, and the dangling rows are told anew.
+pub record Numbered (i number : ℕ) (old new : List ℕ) : Type 0 where
+  pub counts : (j : ℕ) → j < 512 → getD new (8704 + j) 0 ≡ cond (eqb i j) number (getD old (8704 + j) 0)
+  pub tallied : (count : ℕ) → count ≤ 512 → i < count → Tallied count old → Tallied count new
+
+-- The rows on the qubits stay. Where the list is long enough and the row's kept number is not 0, that number is one less.
 pub record Lowered (i : ℕ) (old new : List ℕ) (left : ℕ) : Type 0 where
   pub long : length new ≡ length old
   pub below : (k : ℕ) → k < 8192 → getD new k 0 ≡ getD old k 0
   pub past : (k : ℕ) → 9216 ≤ k → getD new k 0 ≡ getD old k 0
-  pub counts : 9216 ≤ length old → i < 512 → 1 ≤ getD old (8704 + i) 0
-      → (left + 1 ≡ getD old (8704 + i) 0) × ((j : ℕ) → j < 512 → getD new (8704 + j) 0 ≡ cond (eqb i j) left (getD old (8704 + j) 0))
-  pub tallied : 9216 ≤ length old → i < 512 → 1 ≤ getD old (8704 + i) 0 → (count : ℕ) → count ≤ 512 → i < count → Tallied count old → Tallied count new
+  pub lowered : 9216 ≤ length old → i < 512 → 1 ≤ getD old (8704 + i) 0 → (left + 1 ≡ getD old (8704 + i) 0) × Numbered i left old new
+
+-- The same where the number is below 1024, as it is while a qubit of the row is not open: that number is one more. Otherwise nothing is written.
+pub record Raised (i : ℕ) (old new : List ℕ) : Type 0 where
+  pub long : length new ≡ length old
+  pub below : (k : ℕ) → k < 8192 → getD new k 0 ≡ getD old k 0
+  pub past : (k : ℕ) → 9216 ≤ k → getD new k 0 ≡ getD old k 0
+  pub raised : 9216 ≤ length old → i < 512 → getD old (8704 + i) 0 < 1024 → Numbered i (getD old (8704 + i) 0 + 1) old new
+  pub refused : (9216 ≤ length old → i < 512 → getD old (8704 + i) 0 < 1024 → ⊥) → new ≡ old
 
 -- The rows on qubit p, which was open, are kept without it.
 pub record LoweredRows (p count : ℕ) (old new : List ℕ) : Type 0 where

@@ -1,6 +1,6 @@
 // What is kept of a half's rows while it is decoded: of each row the number of its open qubits, the dangling rows and how many they are, and the rows on
 // each open qubit.
-ghost use Rattle.kept.specs.Kept.{Changes, Lowered, LoweredRows, Lowest};
+ghost use Rattle.kept.specs.Kept.{Changes, Lowered, Raised, LoweredRows, Lowest};
 use code::KindRow;
 use code::Qubit;
 
@@ -64,6 +64,31 @@ pub fn lower(i: KindRow, work: &mut [u64]) -> u64
         change(i, true, work);
     }
     left
+}
+
+// Row i has an open qubit more.
+pub fn raise(i: KindRow, work: &mut [u64])
+    ensures { λ _. ⌜ Raised (i .0) (now (work .entry)) (now (work .exit)) ⌝ }
+{
+    if work.len() < END {
+        return;
+    }
+    if 512 <= i.0 {
+        return;
+    }
+    let at = NUMBERS + i.0 as usize;
+    let open = work[at];
+    if 1024 <= open {
+        return;
+    }
+    work[at] = open + 1;
+    if open == 0 {
+        change(i, true, work);
+        return;
+    }
+    if open == 1 {
+        change(i, false, work);
+    }
 }
 
 // Each row on qubit p, which is open no more, has an open qubit less.

@@ -2,14 +2,18 @@
 --   RowLists    the lists, with the half's first row and how many it has; rowsIn: the rows, with any readings
 --   read?       whether a row was read; readRow: its qubits, none of an unread row
 --   checksFrom  the rows that were read, from a row on, with their readings; rowChecks: the half's
---   GoodRows    the half's rows are strictly ascending and below n
+--   ListedIn    the rows on a qubit, kept with the code, are those of the half that have it, none twice
+--   GoodRows    the half's rows are strictly ascending and below n, and listed on each qubit that has a place for them
+use mathlib.Core.Path.{_≡_}
 use mathlib.Core.Bool.{Bool, not, cond}
 use mathlib.Core.List.{List, []}
-use Prim.Native.Nat.{ℕ, zero, suc}
+use Prim.Native.Nat.{ℕ, zero, suc, _+_, _≤_, _<_}
 use lib.ListN.{getD}
-use Rattle.binary.specs.Meaning.{All, Check}
+use Rattle.binary.specs.Meaning.{All, Check, has}
 use Rattle.code.specs.Lists.{rowAt, rowsFrom}
 use Rattle.code.specs.Tests.{Ascending}
+use Rattle.code.proofs.Order.{Distinct}
+use Rattle.incidence.specs.Incidence.{numberOn, rowsOn}
 use Rattle.machine.specs.Machine.{keepIf}
 use Rattle.machine.specs.Lists.{lit?, unread?}
 
@@ -39,5 +43,11 @@ checksFrom flat ends lit r (suc count) = keepIf (read? lit r) (checkAt flat ends
 abbrev pub rowChecks : RowLists → List Check
 rowChecks c = checksFrom (c .flat) (c .ends) (c .lit) (c .first) (c .count)
 
-abbrev pub GoodRows : ℕ → RowLists → Type 0
-GoodRows n c = All (Ascending n) (rowsFrom (c .flat) (c .ends) (c .first) (c .count))
+-- Rows of the other kind may be among them.
+pub record ListedIn (c : RowLists) (q : ℕ) : Type 0 where
+  pub once : Distinct (rowsOn (c .ends) q)
+  pub are : (i : ℕ) → i < c .count → has (rowsOn (c .ends) q) (c .first + i) ≡ has (rowAt (c .flat) (c .ends) (c .first + i)) q
+
+pub record GoodRows (n : ℕ) (c : RowLists) : Type 0 where
+  pub ascending : All (Ascending n) (rowsFrom (c .flat) (c .ends) (c .first) (c .count))
+  pub listed : 0 < c .count → (q : ℕ) → q < n → numberOn (c .ends) q ≤ 14 → ListedIn c q

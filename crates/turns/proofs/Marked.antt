@@ -28,13 +28,13 @@ use Rattle.turns.specs.declared.Ended.{Ended}
 use Rattle.turns.specs.Lists.{stateOf}
 use Rattle.turns.specs.Turns.{Working, Stays, Ready, EndedAs, runFrom, RunEnds}
 use Rattle.turns.specs.Runs.{stageIn, Begins, TurnedHalf, reportBy, RanHalf, fits?, fitting, Runs}
-use Rattle.turns.proofs.Stays.{stays-on}
+use Rattle.turns.proofs.Stays.{stays-same, stays-on}
 use Rattle.turns.proofs.Running.{run-failed}
 
 ----------------------------------------------------------------------
 -- The start
 
-blank-forms : (n : ℕ) (forms forms′ : List ℕ) → Cleared 0 (4 * n) forms forms′ → formsOf n forms′ ≡ (λ q k. false)
+pub blank-forms : (n : ℕ) (forms forms′ : List ℕ) → Cleared 0 (4 * n) forms forms′ → formsOf n forms′ ≡ (λ q k. false)
 blank-forms n forms forms′ f =
     fun-ext λ q. fun-ext λ k. ⊎-elim (λ (l : q < n). rw (lt-ltb q n l) (within q k l (order k 256))) (λ (l : n ≤ q). rw (le-ltb q n l)) (order q n)
   where
@@ -152,7 +152,7 @@ module _ (n : ℕ) (c : RowLists) (budget limit : ℕ) (old : Working) (told : B
   pub runs-refused : not told ≡ true → Runs n c budget limit old old Refused
   runs-refused e =
       record {
-        stays = record { marks-long = refl; forms-long = refl; work-long = refl; marks-rest = λ q i. refl; forms-rest = λ q i. refl };
+        stays = stays-same n old;
         refused = λ i. (refl, refl);
         over = λ i. never i (sym tells ∙ not-out told e);
       }

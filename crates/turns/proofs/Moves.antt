@@ -34,7 +34,7 @@ use Rattle.guessing.proofs.Adding.{alone-same}
 use Rattle.guessing.proofs.Room.{does-weigh, named-as}
 use Rattle.guessing.proofs.Choices.{weighed-rule}
 use Rattle.turns.specs.Turns.{Working, Ready, Stays, Turned, peelBy, guessBy, turnBy, WeighedOnce, Guessed, MovedBy, Moved}
-use Rattle.turns.proofs.Stays.{stays-on}
+use Rattle.turns.proofs.Stays.{stays-same, stays-on}
 
 ----------------------------------------------------------------------
 -- The qubit that the rule names
@@ -64,9 +64,6 @@ choice-some n work marks x a b some-open =
     look : (y : Option ℕ) → best (lighter work) n (isOpen (view n marks)) ≡ y → best (lighter work) n (isOpen (view n marks)) ≡ none
     look none i = i
     look (some q) i = let z : x ≡ Named (record { 0 = q }) = a ∙ ap choiceOf i in let w : _≡_ {A = Bool} true false = cc in never refl w
-
-stays-same : (n : ℕ) (old : Working) → Stays n old old
-stays-same n old = record { marks-long = refl; forms-long = refl; work-long = refl; marks-rest = λ q h. refl; forms-rest = λ q h. refl }
 
 ----------------------------------------------------------------------
 -- The weights, counted unless they are kept

@@ -30,17 +30,17 @@ use Rattle.machine.proofs.Runs.{Unsaid}
 use Rattle.machine.proofs.Guessing.{best-rule}
 use Rattle.machine.proofs.Budgets.{FewAt, few-turn}
 use Rattle.machine.proofs.Counts.{OpenAt, open-turn}
-use Rattle.turns.proofs.Stays.{stays-on}
+use Rattle.turns.proofs.Stays.{stays-same, stays-on}
 
 ----------------------------------------------------------------------
 -- The machine's run
 
 module _ (checks : List Check) (n : ℕ) (choose : Qubits → Option ℕ) (budget limit m : ℕ) (st : State) where
-  run-ends : (w : Word) → before checks n choose budget limit st ≡ some w → run checks n choose budget limit (suc m) (on st) ≡ record { word = w; state = st }
+  pub run-ends : (w : Word) → before checks n choose budget limit st ≡ some w → run checks n choose budget limit (suc m) (on st) ≡ record { word = w; state = st }
   unfolding run
   run-ends w e = rw e
 
-  run-goes : before checks n choose budget limit st ≡ none
+  pub run-goes : before checks n choose budget limit st ≡ none
       → run checks n choose budget limit (suc m) (on st) ≡ run checks n choose budget limit m (turn checks n choose st)
   unfolding run
   run-goes e = rw e
@@ -74,7 +74,7 @@ module _ (n : ℕ) (c : RowLists) (budget limit : ℕ) (old : Working) (begun : 
   pub goes-start : (left : ℕ) → left ≡ marked n (view n (old .marks)) 4 → Goes old begun false 0 left
   goes-start left e =
       record {
-        stays = record { marks-long = refl; forms-long = refl; work-long = refl; marks-rest = λ q l. refl; forms-rest = λ q l. refl };
+        stays = stays-same n old;
         within = zero-le;
         so = λ good ready few. record {
           same = let z : limit - 0 ≡ limit = omega arith in ap (λ (k : ℕ). runFrom n c budget limit (suc k) old begun 0) z;

@@ -38,7 +38,7 @@ use Rattle.machine.proofs.Stages.{open-put}
 ----------------------------------------------------------------------
 -- The rows that a turn closed
 
-closing-test : (mark : ℕ → ℕ) (p m : ℕ) → isOpen mark p ≡ true → eqb m 4 ≡ false → (c : Check)
+pub closing-test : (mark : ℕ → ℕ) (p m : ℕ) → isOpen mark p ≡ true → eqb m 4 ≡ false → (c : Check)
     → closing mark (put p m mark) c ≡ closedAt? false p (isOpen (put p m mark)) c
 unfolding closedAt?
 closing-test mark p m t e c =

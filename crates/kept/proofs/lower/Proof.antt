@@ -2,7 +2,7 @@
 use lib.ListN.{length-set}
 use mathlib.Core.Path.{_∙_}
 use native.Mathlib.Omega.{arith}
-use Rattle.kept.proofs.Tallying.{lowered-not, lowered-none, lowered-one, lowered-more}
+use Rattle.kept.proofs.Tallying.{dangles-never, dangles-no-longer, dangles-now, lowered, lowered-not}
 use borrow.Author.Needs.{needs}
 use Rattle.kept.proofs.lower.Statement.{statement}
 use Rattle.kept.proofs.lower.Tie as tie
@@ -44,7 +44,12 @@ same-length : tie.Need-same-length
 same-length c = c .before .before .change .ensures .long ∙ length-set (c .before .before .before .before .before .before .before .before .before .before .before .before .args .work .now) _ _
 
 returns-4 : tie.Need-returns-4
-returns-4 c = lowered-none _ _ _ (search needs) (search needs) (omega (arith, c .before .before .before .before .before .if3 .left)) (c .before .before .before .before .if4 .taken) _ (c .before .before .change .ensures .changed (rw length-set (search needs)) (search needs))
+returns-4 c =
+    let open-some = c .before .before .before .before .before .if3 .left in
+    let none-left = c .before .before .before .before .if4 .taken in
+    lowered _ _ _ (omega (arith, open-some)) _
+    (dangles-no-longer _ _ _ (search needs) (search needs) (λ e. omega (arith, none-left)) (omega (arith, open-some, none-left)) _
+    (c .before .before .change .ensures .changed (rw length-set (search needs)) (search needs)))
 
 change-requires-2 : tie.Need-change-requires-2
 change-requires-2 c κs = search needs
@@ -53,13 +58,21 @@ same-length-2 : tie.Need-same-length-2
 same-length-2 c = c .before .before .change2 .ensures .long ∙ length-set (c .before .before .before .before .before .before .before .before .before .before .before .before .before .args .work .now) _ _
 
 returns-5 : tie.Need-returns-5
-returns-5 c = lowered-one _ _ _ (search needs) (search needs) (omega (arith, c .before .before .before .before .before .before .if3 .left)) (c .before .before .before .before .if5 .taken) _ (c .before .before .change2 .ensures .changed (rw length-set (search needs)) (search needs))
+returns-5 c =
+    let open-some = c .before .before .before .before .before .before .if3 .left in
+    let one-left = c .before .before .before .before .if5 .taken in
+    lowered _ _ _ (omega (arith, open-some)) _
+    (dangles-now _ _ _ (search needs) (search needs) one-left (λ e. omega (arith, open-some, one-left)) _
+    (c .before .before .change2 .ensures .changed (rw length-set (search needs)) (search needs)))
 
 same-length-3 : tie.Need-same-length-3
 same-length-3 c = search needs
 
 returns-6 : tie.Need-returns-6
-returns-6 c = lowered-more _ _ _ (search needs) (search needs) (omega (arith, c .before .before .if3 .left)) (omega (arith, c .if5 .left, c .before .if4 .left))
+returns-6 c =
+    let open-some = c .before .before .if3 .left in
+    lowered _ _ _ (omega (arith, open-some)) _
+    (dangles-never _ _ _ (search needs) (search needs) (λ e. omega (arith, c .if5 .left)) (λ e. omega (arith, open-some, c .before .if4 .left)))
 
 pub lower-spec : {M : Type 1} → statement M
 lower-spec =
