@@ -7,9 +7,9 @@ use Prim.Native.Nat.{ℕ, _+_, _*_, _/_, _%_, _^_, _≤_, _<_}
 use native.Mathlib.Omega.{arith}
 use lib.Dec.{eqb, ltb, leb}
 use lib.ListN.{length, getD}
-use borrow.Author.Tests.{lt-ltb, le-ltb, le-leb, leb-true}
-use Rattle.binary.specs.Words.{bit, listed}
-use Rattle.binary.proofs.Bits.{bit as cases, never, and-out, and-in}
+use borrow.Author.Tests.{lt-ltb, le-ltb, leb-true}
+use Rattle.binary.specs.Words.{bit}
+use Rattle.binary.proofs.Bits.{bit as cases, never, and-out}
 use Rattle.binary.proofs.WordBits.{bit-zero, order}
 use Rattle.scans.specs.Rows.{RowLists}
 use Rattle.kept.specs.Kept.{Kept}
@@ -26,22 +26,17 @@ use Rattle.machine.proofs.FormWords.{form-in, form-out, form-first, first-digit
 use Rattle.halves.specs.Decode.{Given, ownRows, fitting, Decodes}
 use Rattle.turns.specs.declared.RunAnswer.{RunAnswer}
 use Rattle.turns.specs.declared.RunAnswer.the-variants.{Over}
-use Rattle.turns.specs.declared.RunAnswer.the-variants as turns-answer
-use Rattle.turns.specs.Turns.{Working, Stays, isGuessed, KeptOver}
-use Rattle.turns.specs.Runs.{Ran, Runs}
-use Rattle.turns.specs.Runs as runs
-use Rattle.starting.specs.Starting.{fixedIn, Begun, Starts}
-use Rattle.starting.specs.Starting as starts
-use Rattle.halves.specs.Starts.{halfIn, Finished, fits?, RowsObey, HalfDone}
+use Rattle.turns.specs.Turns.{Working, Stays, KeptOver}
+use Rattle.turns.specs.Runs.{Ran}
+use Rattle.halves.specs.Starts.{halfIn, HalfRan, Finished, fits?, RowsObey, HalfDone}
 use Rattle.machine.proofs.Values.{value-off}
 use Rattle.halves.proofs.Finishing.{not-none}
-use Rattle.halves.proofs.HalfRuns.{decoded-is}
 
 -- What the turns and the end leave past n is as it was.
-past-stays : (n : ℕ) (marks forms correction work : List ℕ) (mid : Working) (w : Word) (new : HalfLists) → Stays n (record { marks = marks; forms = forms; work = work }) mid
+past-stays : (n : ℕ) (old : Working) (correction : List ℕ) (mid : Working) (w : Word) (new : HalfLists) → Stays n old mid
     → Finished n w (record { marks = mid .marks; forms = mid .forms; correction = correction }) new
-    → Past n (record { marks = marks; forms = forms; correction = correction }) new
-past-stays n marks forms correction work mid w new k f = record {
+    → Past n (record { marks = old .marks; forms = old .forms; correction = correction }) new
+past-stays n old correction mid w new k f = record {
   marks = λ q i. f .marks .rest q i ∙ k .marks-rest q i;
   forms = λ q i. f .forms .rest q i ∙ k .forms-rest q i;
   correction = λ q i. f .correction .rest q i;
@@ -107,37 +102,20 @@ module _ (n : ℕ) (c : RowLists) (mid : Working) (correction : List ℕ) (new :
   unfolding shown
   ended-shows old past wide = record { marks = marks-shown; forms = forms-shown; words = λ i l. wide i; correction = flips-shown; past = past }
 
--- Sizes and lists that fit the decode fit its start.
-pub start-fits : (n lost lit first count other others work marks : ℕ) → n ≤ 1024 → count ≤ 512 → others ≤ 512 → first ≤ 512 → other ≤ 512 → 10240 ≤ work → n ≤ lost → first + count ≤ lit
-    → n ≤ marks → starts.fits? n lost lit first count other others work marks ≡ true
-unfolding starts.fits?
-start-fits n lost lit first count other others work marks a b d e f g h i j =
-    rw (le-leb n 1024 a, le-leb count 512 b, le-leb others 512 d, le-leb first 512 e, le-leb other 512 f, le-leb 10240 work g, le-leb n lost h, le-leb (first + count) lit i, le-leb n marks j)
-
--- At the start no qubit is guessed.
-none-guessed : (n : ℕ) (c : RowLists) (lost : List ℕ) (other others : ℕ) (work marks : List ℕ) → Begun n c lost other others work marks → (q : ℕ) → isGuessed n marks q ≡ false
-none-guessed n c lost other others work marks b q = ap (λ (m : ℕ → ℕ). eqb (m q) 3) (b .marked) ∙ of (listed n lost q) (fixedIn n c lost other others q)
-  where
-    of : (l f : Bool) → eqb (cond l (cond f 1 4) 0) 3 ≡ false
-    of true true = refl
-    of true false = refl
-    of false f = refl
-
-pub half-done : (n : ℕ) (c : RowLists) (lost : List ℕ) (other others budget limit : ℕ) (marks marks₁ forms correction work work₁ : List ℕ) (mid : Working) (new : HalfLists)
-    (a : RunAnswer) (r : HalfReport) → Starts n c lost other others work work₁ marks marks₁ → starts.fitting n c lost other others work marks ≡ true
-    → Runs n c budget limit (record { marks = marks₁; forms = forms; work = work₁ }) mid a → runs.fitting n c (record { marks = marks₁; forms = forms; work = work₁ }) ≡ true
-    → a ≡ Over r → Finished n (r .word) (record { marks = mid .marks; forms = mid .forms; correction = correction }) new → ((i : ℕ) → getD (new .forms) i 0 < 2 ^ 64)
-    → HalfDone n c lost other others budget limit (mid .work) (record { marks = marks; forms = forms; correction = correction }) new r
+pub half-done : (n : ℕ) (c : RowLists) (lost : List ℕ) (other others budget limit : ℕ) (old : Working) (correction : List ℕ) (mid : Working) (new : HalfLists) (a : RunAnswer) (r : HalfReport)
+    → HalfRan n c lost other others budget limit old mid a → a ≡ Over r → Finished n (r .word) (record { marks = mid .marks; forms = mid .forms; correction = correction }) new
+    → ((i : ℕ) → getD (new .forms) i 0 < 2 ^ 64)
+    → HalfDone n c lost other others budget limit (mid .work) (record { marks = old .marks; forms = old .forms; correction = correction }) new r
 unfolding shown
-half-done n c lost other others budget limit marks marks₁ forms correction work work₁ mid new a r starts can-start v fits told f wide =
+half-done n c lost other others budget limit old correction mid new a r v told f wide =
     record {
       lengths = record {
-        marks = f .marks .long ∙ v .stays .marks-long ∙ starts .marks-long;
+        marks = f .marks .long ∙ v .stays .marks-long;
         forms = f .forms .long ∙ v .stays .forms-long;
         correction = f .correction .long;
       };
       past = past;
-      shows = λ obey. let w = ran obey in (w .report, ended-shows n c mid correction new r e w f (record { marks = marks; forms = forms; correction = correction }) past wide);
+      shows = λ obey. let w = ran obey in (w .report, ended-shows n c mid correction new r e w f (record { marks = old .marks; forms = old .forms; correction = correction }) past wide);
       kept = λ obey. ended-kept n c mid correction new r e (ran obey) f;
     }
   where
@@ -146,35 +124,12 @@ half-done n c lost other others budget limit marks marks₁ forms correction wor
 
     ran : RowsObey n c other others → Ran n c mid r e
     ran obey =
-        let o = v .over fits in
+        let o = v .over in
         let same : o .0 ≡ r = cc in
-        let b = starts .begun can-start (obey .own) (obey .other-kind) (obey .commute) in
-        subst (λ (x : HalfReport). Ran n c mid x e) same
-        (subst (Ran n c mid (o .0)) (sym (decoded-is n c lost other others budget limit marks₁ forms work₁ b))
-        (o .2 (record { good = obey .own; kept = b .keeps .kept; on = b .keeps .on; unguessed = none-guessed n c lost other others work₁ marks₁ b })))
+        subst (λ (x : HalfReport). Ran n c mid x e) same (o .2 obey)
 
-    stays : Stays n (record { marks = marks; forms = forms; work = work }) mid
-    stays = record {
-      marks-long = v .stays .marks-long ∙ starts .marks-long;
-      forms-long = v .stays .forms-long;
-      work-long = v .stays .work-long ∙ starts .work-long;
-      marks-rest = λ q i. v .stays .marks-rest q i ∙ starts .rest q i;
-      forms-rest = v .stays .forms-rest;
-    }
-
-    past : Past n (record { marks = marks; forms = forms; correction = correction }) new
-    past = past-stays n marks forms correction work mid (r .word) new stays f
-
--- Sizes and lists that fit the decode fit its turns.
-pub turns-fit : (n lit first count work marks forms : ℕ) → n ≤ 1024 → count ≤ 512 → first ≤ 512 → 10240 ≤ work → first + count ≤ lit
-    → n ≤ marks → 4 * n ≤ forms → runs.fits? n lit first count work marks forms ≡ true
-unfolding runs.fits?
-turns-fit n lit first count work marks forms a b d f g h i =
-    and-in (and-in (and-in (and-in (and-in (and-in (le-leb _ _ a) (le-leb _ _ b)) (le-leb _ _ d)) (le-leb _ _ f)) (le-leb _ _ g)) (le-leb _ _ h)) (le-leb _ _ i)
-
-pub turns-made : {C : Type 0} (n : ℕ) (c : RowLists) (budget limit : ℕ) (old new : Working) (a : RunAnswer) → Runs n c budget limit old new a
-    → runs.fitting n c old ≡ true → a ≡ turns-answer.Refused → C
-turns-made n c budget limit old new a v fits e = let o = v .over fits in let f = o .1 in let z : _≡_ {A = ℕ} 0 1 = cc in absurd (omega arith)
+    past : Past n (record { marks = old .marks; forms = old .forms; correction = correction }) new
+    past = past-stays n old correction mid (r .word) new (v .stays) f
 
 ----------------------------------------------------------------------
 -- Sizes and lengths that fit

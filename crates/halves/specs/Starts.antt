@@ -1,8 +1,9 @@
--- What the decode of a half does to the lists, beside its start and its turns.
+-- What the decode of a half does to the lists.
 --   halfIn      the half whose rows and readings, lost qubits and other kind's rows the lists hold
+--   RowsObey    the rows obey document 01
+--   HalfRan     the start and the turns of a half
 --   Finished    what the half leaves in its lists, by its word
 --   fits?       whether sizes and lengths are such that the half is decoded
---   RowsObey    the rows obey document 01
 --   HalfDone    the whole decode of a half
 use mathlib.Core.Path.{_≡_}
 use mathlib.Core.Bool.{Bool, false, _&&_, cond}
@@ -14,10 +15,13 @@ use Rattle.binary.specs.Meaning.{All, Commute}
 use Rattle.code.specs.Lists.{rowsFrom}
 use Rattle.code.specs.Tests.{Ascending}
 use Rattle.scans.specs.Rows.{RowLists, GoodRows}
-use Rattle.turns.specs.Turns.{KeptOver}
+use Rattle.turns.specs.declared.RunAnswer.{RunAnswer}
+use Rattle.turns.specs.declared.RunAnswer.the-variants.{Over}
+use Rattle.turns.specs.Turns.{Working, Stays, KeptOver}
+use Rattle.turns.specs.Runs.{Ran}
 use Rattle.machine.specs.declared.Word.{Word}
 use Rattle.machine.specs.declared.HalfReport.{HalfReport}
-use Rattle.machine.specs.Machine.{Half}
+use Rattle.machine.specs.Machine.{Half, decoded}
 use Rattle.machine.specs.Words.{finished?}
 use Rattle.machine.specs.Report.{none?, outcome}
 use Rattle.machine.specs.Lists.{HalfLists, SameLengths, Past, Shows}
@@ -27,6 +31,20 @@ use Rattle.lists.specs.Filled.{Filled}
 -- The half whose rows and readings, lost qubits and other kind's rows the lists hold.
 abbrev pub halfIn : ℕ → RowLists → List ℕ → ℕ → ℕ → Half
 halfIn n c lost other others = halfOf n (c .flat) (c .ends) lost (c .lit) (c .first) (c .count) other others
+
+-- The half's own rows and the other kind's are strictly ascending and below n, and commute.
+pub record RowsObey (n : ℕ) (c : RowLists) (other others : ℕ) : Type 0 where
+  pub own : GoodRows n c
+  pub other-kind : All (Ascending n) (rowsFrom (c .flat) (c .ends) other others)
+  pub commute : Commute (rowsFrom (c .flat) (c .ends) (c .first) (c .count)) (rowsFrom (c .flat) (c .ends) other others)
+
+----------------------------------------------------------------------
+-- Its start and its turns
+
+-- Of rows that obey, the end is the machine's.
+pub record HalfRan (n : ℕ) (c : RowLists) (lost : List ℕ) (other others budget limit : ℕ) (old new : Working) (a : RunAnswer) : Type 0 where
+  pub stays : Stays n old new
+  pub over : (r : HalfReport) × (a ≡ Over r) × (RowsObey n c other others → Ran n c new r (decoded (halfIn n c lost other others) budget limit))
 
 ----------------------------------------------------------------------
 -- What a half leaves
@@ -45,12 +63,6 @@ unfoldable pub fits? : ℕ → ℕ → ℕ → ℕ → ℕ → ℕ → ℕ → �
 fits? n lost lit first count other others work marks forms correction =
     leb n 1024 && leb count 512 && leb others 512 && leb first 512 && leb other 512
     && leb 10240 work && leb n lost && leb (first + count) lit && leb n marks && leb (4 * n) forms && leb n correction
-
--- The half's own rows and the other kind's are strictly ascending and below n, and commute.
-pub record RowsObey (n : ℕ) (c : RowLists) (other others : ℕ) : Type 0 where
-  pub own : GoodRows n c
-  pub other-kind : All (Ascending n) (rowsFrom (c .flat) (c .ends) other others)
-  pub commute : Commute (rowsFrom (c .flat) (c .ends) (c .first) (c .count)) (rowsFrom (c .flat) (c .ends) other others)
 
 -- With what the work list holds in the end.
 pub record HalfDone (n : ℕ) (c : RowLists) (lost : List ℕ) (other others budget limit : ℕ) (work : List ℕ) (old new : HalfLists) (r : HalfReport) : Type 0 where

@@ -1,13 +1,15 @@
-// The decode of a half: its start, its turns, and what it leaves in its lists.
+// The decode of a half: a try, its start and its turns, and what it leaves in its lists.
 ghost use mathlib.Core.Path.{_≡_};
 ghost use Prim.Native.Nat.{_+_, _*_, _≤_};
 ghost use lib.ListN.{length};
 ghost use Rattle.machine.specs.Report.{none?};
-ghost use Rattle.halves.specs.Starts.{Finished, fits?, HalfDone};
+ghost use Rattle.starting.specs.Starting.{Starts};
+ghost use Rattle.halves.specs.Starts.{Finished, HalfRan, fits?, HalfDone};
 use crate::fills;
 use code::Rows;
 use machine::HalfReport;
 use machine::Word;
+use trying::TryAnswer;
 use turns::RunAnswer;
 
 // Whether the half ended in none.
@@ -77,6 +79,56 @@ fn nothing() -> HalfReport {
     }
 }
 
+// The start of a half after a try that did not end it. Where the try left a qubit, the search is made at once.
+fn start_again(
+    tried: TryAnswer,
+    n: u16,
+    flat: &[u16],
+    ends: &[u16],
+    lost: &[u8],
+    lit: &[u8],
+    own: Rows,
+    others: Rows,
+    work: &mut [u64],
+    marks: &mut [u8],
+)
+    ensures { λ _. ⌜ Starts n (record { flat = now (flat .entry); ends = now (ends .entry); lit = now (lit .entry); first = own .first .0; count = own .count }) (now (lost .entry)) (others .first .0) (others .count) (now (work .entry)) (now (work .exit)) (now (marks .entry)) (now (marks .exit)) ⌝ }
+{
+    if let TryAnswer::Left = tried {
+        starting::search(n, flat, ends, lost, lit, own, others, work, marks);
+        return;
+    }
+    starting::start(n, flat, ends, lost, lit, own, others, work, marks);
+}
+
+// The start and the turns of a half. First a try, as if no qubit were fixed and with guess budget 0: where it is over, peeling left nothing, no qubit is fixed and
+// none is guessed, and the half ends so. Otherwise the half is started anew.
+fn run_half(
+    n: u16,
+    flat: &[u16],
+    ends: &[u16],
+    lost: &[u8],
+    lit: &[u8],
+    own: Rows,
+    others: Rows,
+    budget: u8,
+    limit: u16,
+    work: &mut [u64],
+    marks: &mut [u8],
+    forms: &mut [u64],
+) -> RunAnswer
+    requires { ⌜ (n ≤ 1024) × (own .count ≤ 512) × (others .count ≤ 512) × (own .first .0 ≤ 512) × (others .first .0 ≤ 512) × (10240 ≤ length (now work)) ⌝ }
+    requires { ⌜ (n ≤ length (now lost)) × (own .first .0 + own .count ≤ length (now lit)) × (n ≤ length (now marks)) × (4 * n ≤ length (now forms)) ⌝ }
+    ensures { λ r. ⌜ HalfRan n (record { flat = now (flat .entry); ends = now (ends .entry); lit = now (lit .entry); first = own .first .0; count = own .count }) (now (lost .entry)) (others .first .0) (others .count) budget limit (record { marks = now (marks .entry); forms = now (forms .entry); work = now (work .entry) }) (record { marks = now (marks .exit); forms = now (forms .exit); work = now (work .exit) }) r ⌝ }
+{
+    let first = trying::try_turns(n, ends, lost, lit, own, limit, work, marks, forms);
+    if let TryAnswer::Over(told) = first {
+        return RunAnswer::Over(told);
+    }
+    start_again(first, n, flat, ends, lost, lit, own, others, work, marks);
+    turns::run_turns(n, flat, ends, lit, own, budget, limit, work, marks, forms)
+}
+
 // The decode of a half whose sizes and lists fit.
 pub fn decode(
     n: u16,
@@ -97,8 +149,20 @@ pub fn decode(
     requires { ⌜ (n ≤ length (now lost)) × (own .first .0 + own .count ≤ length (now lit)) × (n ≤ length (now marks)) × (4 * n ≤ length (now forms)) × (n ≤ length (now correction)) ⌝ }
     ensures { λ r. ⌜ (length (now (work .exit)) ≡ length (now (work .entry))) × HalfDone n (record { flat = now (flat .entry); ends = now (ends .entry); lit = now (lit .entry); first = own .first .0; count = own .count }) (now (lost .entry)) (others .first .0) (others .count) budget limit (now (work .exit)) (record { marks = now (marks .entry); forms = now (forms .entry); correction = now (correction .entry) }) (record { marks = now (marks .exit); forms = now (forms .exit); correction = now (correction .exit) }) r ⌝ }
 {
-    starting::start(n, flat, ends, lost, lit, own, others, work, marks);
-    let ran = turns::run_turns(n, flat, ends, lit, own, budget, limit, work, marks, forms);
+    let ran = run_half(
+        n,
+        flat,
+        ends,
+        lost,
+        lit,
+        own,
+        others,
+        budget,
+        limit,
+        work,
+        marks,
+        forms,
+    );
     let RunAnswer::Over(told) = ran else {
         return nothing();
     };

@@ -1,8 +1,10 @@
 -- Each class has one candidate: values of the live guesses are the numbers below 2^live. Assumes nothing.
 use mathlib.Core.Path.{_≡_, refl, sym, ap, _∙_, subst, fun-ext}
-use mathlib.Core.Bool.{true, false}
+use mathlib.Core.Bool.{Bool, true, false, not, cond}
 use Prim.Native.Nat.{ℕ, suc, _^_, _≤_, _<_}
 use native.Mathlib.Omega.{arith}
+use lib.Dec.{eqb}
+use Rattle.binary.specs.Bits.{below}
 use Rattle.binary.specs.Meaning.{Qubits, Differ}
 use Rattle.binary.proofs.Bits.{never}
 use Rattle.binary.proofs.WordBits.{bit-zero}
@@ -14,11 +16,11 @@ use Rattle.machine.specs.Machine.{Form, State, on, Half, checks, fixedOf
 use Rattle.machine.specs.Report.{Shown, shown, outcome}
 use Rattle.machine.specs.Demands.{Obeys, fills, FillingsLaw, ClassesLaw}
 use Rattle.machine.specs.Candidates.{choice, candidateOf, CandidatesLaw}
-use Rattle.machine.proofs.Runs.{Said}
+use Rattle.machine.proofs.Runs.{Said, said-shut}
 use Rattle.machine.proofs.Stages.{Good}
 use Rattle.machine.proofs.Values.{value-same}
 use Rattle.machine.proofs.Verdicts.{values-fit}
-use Rattle.machine.proofs.Demands.{half-said, asState, outcome-good, even, shut-all, fillings, classes}
+use Rattle.machine.proofs.Demands.{not-none, half-said, asState, outcome-good, even, shut-all, fillings, classes}
 
 ----------------------------------------------------------------------
 -- Values of the live guesses as a number
@@ -43,11 +45,9 @@ module _ (h : Half) (budget limit : ℕ) where
   over-shut : (w : Word) (st : State) → finished? w ≡ true → Said (checks h) (h .size) (ruleOf h) budget limit w st
       → noneOpen (checks h) (h .size) (ruleOf h) (asState (shown (h .size) (record { word = w; state = st }))) ≡ true
   unfolding shown
-  over-shut Certain st e z = z .0
-  over-shut Unsure st e z = z .0
-  over-shut None st e z = never e refl
-  over-shut Spent st e z = never e refl
-  over-shut Stopped st e z = never e refl
+  over-shut w st e z =
+      ap (λ (b : Bool). below (h .size) (λ q. not (eqb (cond b 0 (st .mark q)) 4))) (not-none w (λ i. never e (ap finished? i)))
+      ∙ said-shut (checks h) (h .size) (ruleOf h) budget limit w st e z
 
   certain-none : (w : Word) (st : State) → w ≡ Certain → Said (checks h) (h .size) (ruleOf h) budget limit w st → st .forms .live ≡ 0
   certain-none w st e z = subst (λ (x : Word). Said (checks h) (h .size) (ruleOf h) budget limit x st) e z .1

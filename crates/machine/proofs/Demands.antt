@@ -13,7 +13,7 @@ use Rattle.binary.proofs.Bits.{bit, never, below-out, not-out}
 use Rattle.machine.specs.declared.Word.{Word}
 use Rattle.machine.specs.declared.Word.the-variants.{Certain, Unsure, None, Spent, Stopped}
 use Rattle.machine.specs.Words.{finished?}
-use Rattle.machine.specs.Machine.{Form, Forms, blank, State, Stage, on, failed, End, Half, keepIf, readings, checks, fixedOf, ruleOf, startOf, decoded, start, startMark, isOpen, closed?, dangling, fewer, takeUpAll, stage, turn, noneOpen}
+use Rattle.machine.specs.Machine.{Form, Forms, blank, State, Stage, on, failed, End, Half, keepIf, readings, checks, fixedOf, ruleOf, startOf, decoded, start, startMark, isOpen, closed?, dangling, fewer, takeUpAll, stage, turn, noneOpen, run}
 use Rattle.machine.specs.Fillings.{filling}
 use Rattle.machine.specs.Report.{Shown, shown, outcome, none?}
 use Rattle.machine.specs.Demands.{Obeys, FitsHalf, VerdictLaw, Fillings, FillingsLaw, ClassesLaw, BudgetsLaw, turnOf, turned, stageOf, CountsLaw, CountedLaw, EmptiedLaw, ReachLaw}
@@ -27,7 +27,7 @@ use Rattle.machine.proofs.Verdicts.{failed-fits, values-fit, classes-on
 ----------------------------------------------------------------------
 -- Words told apart
 
-not-none : (w : Word) → (w ≡ None → ⊥) → none? w ≡ false
+pub not-none : (w : Word) → (w ≡ None → ⊥) → none? w ≡ false
 not-none Certain h = refl
 not-none Unsure h = refl
 not-none None h = absurd (h refl)
@@ -36,6 +36,15 @@ not-none Stopped h = refl
 
 is-none : (w : Word) → none? w ≡ false → w ≡ None → ⊥
 is-none w e i = never (ap none? i) e
+
+settled-word : (w : Word) → (finished? w ≡ true) ⊎ (w ≡ None) → Settled w
+settled-word Certain h = tt
+settled-word Unsure h = tt
+settled-word None h = tt
+settled-word Spent (inl e) = never e refl
+settled-word Spent (inr e) = let j : _≡_ {A = Bool} true false = cc in never refl j
+settled-word Stopped (inl e) = never e refl
+settled-word Stopped (inr e) = let j : _≡_ {A = Bool} true false = cc in never refl j
 
 ----------------------------------------------------------------------
 -- The half of a code and a shot
@@ -61,9 +70,26 @@ start-turns cs lost fixed = go (takeUpAll (closed? (isOpen (startMark lost fixed
     go none = refl
     go (some fs) = refl
 
-start-few : (b : ℕ) (cs : List Check) (lost fixed : Qubits) → FewAt b (start cs lost fixed)
+pub start-few : (b : ℕ) (cs : List Check) (lost fixed : Qubits) → FewAt b (start cs lost fixed)
 unfolding start
 start-few b cs lost fixed = few-stage b (startMark lost fixed) 0 (closed? (isOpen (startMark lost fixed))) cs blank zero-le
+
+-- How the half ends from a start with these qubits fixed.
+module _ (h : Half) (fixed : Qubits) where
+  abbrev pub endFrom : ℕ → ℕ → End
+  endFrom budget limit = run (checks h) (h .size) (ruleOf h) budget limit (suc limit) (start (checks h) (h .lost) fixed)
+
+  from-turns : (l : ℕ) → turnsOf (start (checks h) (h .lost) fixed) + l ≡ l
+  from-turns l = ap (_+ l) (start-turns (checks h) (h .lost) fixed) ∙ zero-add l
+
+  pub from-said : (budget limit : ℕ) → let e : End = endFrom budget limit in Said (checks h) (h .size) (ruleOf h) budget limit (e .word) (e .state)
+  from-said budget limit =
+      run-said (checks h) (h .size) (ruleOf h) budget limit (rule-of h) limit (start (checks h) (h .lost) fixed) (from-turns limit)
+
+  pub from-larger : (b b′ l l′ : ℕ) → b ≤ b′ → l ≤ l′ → (finished? (endFrom b l .word) ≡ true) ⊎ (endFrom b l .word ≡ None) → endFrom b′ l′ ≡ endFrom b l
+  from-larger b b′ l l′ more-guesses more-turns ended =
+      larger (checks h) (h .size) (ruleOf h) (rule-of h) b b′ l l′ more-guesses more-turns (suc l) (suc l′) (start (checks h) (h .lost) fixed)
+      (from-turns (suc l)) (from-turns (suc l′)) (start-few b (checks h) (h .lost) fixed) (settled-word _ ended)
 
 module _ (h : Half) (budget limit : ℕ) where
   half-good : Good (checks h) (h .lost) (fixedOf h) (stageOf (decoded h budget limit))
@@ -81,9 +107,7 @@ module _ (h : Half) (budget limit : ℕ) where
 
   pub half-said : let e : End = decoded h budget limit in Said (checks h) (h .size) (ruleOf h) budget limit (e .word) (e .state)
   unfolding decoded
-  half-said =
-      run-said (checks h) (h .size) (ruleOf h) budget limit (rule-of h) limit (startOf h)
-      (ap (_+ limit) (start-turns (checks h) (h .lost) (fixedOf h)) ∙ zero-add limit)
+  half-said = from-said h (fixedOf h) budget limit
 
 ----------------------------------------------------------------------
 -- Demand 3: fillings and classes
@@ -235,25 +259,9 @@ verdict h obeys budget limit =
 ----------------------------------------------------------------------
 -- Demand 3: budgets
 
-settled-word : (w : Word) → (finished? w ≡ true) ⊎ (w ≡ None) → Settled w
-settled-word Certain h = tt
-settled-word Unsure h = tt
-settled-word None h = tt
-settled-word Spent (inl e) = never e refl
-settled-word Spent (inr e) = let j : _≡_ {A = Bool} true false = cc in never refl j
-settled-word Stopped (inl e) = never e refl
-settled-word Stopped (inr e) = let j : _≡_ {A = Bool} true false = cc in never refl j
-
 pub budgets : BudgetsLaw
 unfolding BudgetsLaw shown decoded
-budgets h obeys b b′ l l′ more-guesses more-turns ended =
-    ap (shown (h .size))
-    (larger (checks h) (h .size) (ruleOf h) (rule-of h) b b′ l l′ more-guesses more-turns (suc l) (suc l′) (startOf h)
-    (ap (_+ suc l) zeroth ∙ zero-add (suc l)) (ap (_+ suc l′) zeroth ∙ zero-add (suc l′)) (start-few b (checks h) (h .lost) (fixedOf h))
-    (settled-word _ ended))
-  where
-    zeroth : turnsOf (startOf h) ≡ 0
-    zeroth = start-turns (checks h) (h .lost) (fixedOf h)
+budgets h obeys b b′ l l′ more-guesses more-turns ended = ap (shown (h .size)) (from-larger h (fixedOf h) b b′ l l′ more-guesses more-turns ended)
 
 ----------------------------------------------------------------------
 -- Turns and counts
@@ -277,7 +285,7 @@ half-blank h budget limit =
     keeps h budget limit BlankAt (blank-turn (checks h) (h .size) (ruleOf h)) (blank-start (checks h) (h .lost) (fixedOf h))
 
 -- What holds of a stage by its state alone holds of the state that a half ended in.
-of-state : (P : State → Type 0) (Q : Stage → Type 0) → ((st : State) → Q (on st) → P st) → ((st : State) → Q (failed st) → P st)
+pub of-state : (P : State → Type 0) (Q : Stage → Type 0) → ((st : State) → Q (on st) → P st) → ((st : State) → Q (failed st) → P st)
     → (e : End) → Q (stageOf e) → P (e .state)
 of-state P Q f g e = by (none? (e .word)) refl
   where

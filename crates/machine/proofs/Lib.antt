@@ -12,5 +12,6 @@ pub mod Demands
 pub mod Seen
 pub mod Unread
 pub mod Peeling
+pub mod Trying
 pub mod FormWords
 pub mod Candidates

@@ -1,19 +1,20 @@
 -- Where peeling leaves nothing, no qubit is fixed. Assumes nothing.
 use mathlib.Core.Path.{_≡_, refl, sym, ap, _∙_, fun-ext}
-use mathlib.Core.Bool.{Bool, true, false}
+use mathlib.Core.Bool.{Bool, true, false, not}
 use mathlib.Core.Option.{Option, none, some}
 use mathlib.Core.List.{List, [], _∷_}
 use Prim.Native.Nat.{ℕ, zero, suc, _+_, _<_}
 use native.Mathlib.Nat.{zero-add}
 use native.Mathlib.Omega.{arith}
 use lib.Dec.{eqb}
-use Rattle.binary.specs.Bits.{_⊕_}
+use Rattle.binary.specs.Bits.{below}
 use Rattle.binary.specs.Meaning.{Qubits, Row, Check, Below, All, odd, Inside, product, Fixed, fixed?}
 use Rattle.binary.specs.Classes.{Commuting}
 use Rattle.binary.proofs.Bits.{⊕-false, bit, never, below-out, not-out, eqb-eq}
 use Rattle.binary.proofs.Rows.{all-out, odd-product}
 use Rattle.binary.proofs.Tests.{fixed-out}
-use Rattle.machine.specs.Machine.{on, dangling, checks}
+use Rattle.machine.specs.Machine.{dangling, Half, checks, fixedOf}
+use Rattle.machine.specs.Demands.{Obeys}
 use Rattle.machine.specs.Peeling.{peelStep, peeled, peelsAway, PeelLaw}
 use Rattle.machine.proofs.Settling.{odd-open, shut-less}
 use Rattle.machine.proofs.Stages.{dangling-is}
@@ -51,21 +52,30 @@ silent others c e same [] v = tt
 silent others c e same (k ∷ cs) v =
     (ap (λ (f : Qubits). odd f (k .row)) (fun-ext same) ∙ odd-product others (k .row) (v .0) c, silent others c e same cs (v .1))
 
-pub unfixed : (n : ℕ) (others : List Row) (lost : Qubits) (cs : List Check) → Below n others → ((q : ℕ) → lost q ≡ true → q < n) → Commuting others cs
-    → peelsAway cs n lost ≡ true → (q : ℕ) → fixed? n others lost q ≡ false
-unfolding peelsAway
-unfixed n others lost cs others-below lost-below even away q = bit (fixed? n others lost q) (λ t. go (fixed-out n others lost others-below q t)) (λ t. t)
-  where
-    go : Fixed others lost q → fixed? n others lost q ≡ false
-    go f =
-        let inside = peeled-inside cs n lost (f .0) (f .2) (silent others (f .1 .0) (f .0) (f .1 .1) cs even) q (f .3 .0) in
-        never inside (not-out (peeled cs n lost q) (below-out n _ away q (lost-below q (f .2 q (f .3 .0)))))
+-- However many steps are made.
+module _ (n : ℕ) (others : List Row) (lost : Qubits) (cs : List Check) (others-below : Below n others) (lost-below : (q : ℕ) → lost q ≡ true → q < n)
+    (even : Commuting others cs) where
+  pub unfixed-after : (m : ℕ) → below n (λ q. not (peeled cs m lost q)) ≡ true → (q : ℕ) → fixed? n others lost q ≡ false
+  unfixed-after m away q = bit (fixed? n others lost q) (λ t. go (fixed-out n others lost others-below q t)) (λ t. t)
+    where
+      go : Fixed others lost q → fixed? n others lost q ≡ false
+      go f =
+          let inside = peeled-inside cs m lost (f .0) (f .2) (silent others (f .1 .0) (f .0) (f .1 .1) cs even) q (f .3 .0) in
+          never inside (not-out (peeled cs m lost q) (below-out n _ away q (lost-below q (f .2 q (f .3 .0)))))
+
+  pub unfixed : peelsAway cs n lost ≡ true → (q : ℕ) → fixed? n others lost q ≡ false
+  unfolding peelsAway
+  unfixed = unfixed-after n
+
+module _ (h : Half) (obeys : Obeys h) where
+  pub half-unfixed-after : (m : ℕ) → below (h .size) (λ q. not (peeled (checks h) m (h .lost) q)) ≡ true → (q : ℕ) → fixedOf h q ≡ false
+  half-unfixed-after =
+      unfixed-after (h .size) (h .others) (h .lost) (checks h) (obeys .others-below) (obeys .lost-below)
+      (commuting (h .others) 0 (h .lit) (h .unread) (h .rows) (obeys .commute))
 
 pub peel-law : PeelLaw
-unfolding PeelLaw
-peel-law h obeys away =
-    unfixed (h .size) (h .others) (h .lost) (checks h) (obeys .others-below) (obeys .lost-below)
-    (commuting (h .others) 0 (h .lit) (h .unread) (h .rows) (obeys .commute)) away
+unfolding PeelLaw peelsAway
+peel-law h obeys = half-unfixed-after h obeys (h .size)
 
 ----------------------------------------------------------------------
 -- Steps after steps

@@ -13,7 +13,7 @@ use Rattle.binary.specs.Meaning.{Qubits, Check}
 use Rattle.binary.proofs.Bits.{never, below-in, eqb-eq, eq-eqb, not-in, not-out, and-out}
 use Rattle.machine.specs.declared.Word.{Word}
 use Rattle.machine.specs.declared.Word.the-variants.{Certain, Unsure, None, Spent, Stopped}
-use Rattle.machine.specs.Words.{finished}
+use Rattle.machine.specs.Words.{finished?, finished}
 use Rattle.machine.specs.Machine.{Forms, State, Stage, on, failed, End, put, isOpen, dangling, takeUpAll, closing, stage, settle, side, peel, guess, turnBy, turn, noneOpen, dangles, before, onward, run}
 use Rattle.machine.specs.Report.{none?}
 use Rattle.machine.specs.Demands.{stageOf}
@@ -43,8 +43,16 @@ module _ (checks : List Check) (n : ℕ) (choose : Qubits → Option ℕ) (budge
   Said Certain st = (noneOpen checks n choose st ≡ true) × (st .forms .live ≡ 0)
   Said Unsure st = (noneOpen checks n choose st ≡ true) × ((m : ℕ) × (st .forms .live ≡ suc m))
   Said None st = Unit {0}
-  Said Spent st = (dangling (isOpen (st .mark)) checks ≡ none) × (st .forms .live ≡ budget)
+  Said Spent st = (dangling (isOpen (st .mark)) checks ≡ none) × (st .forms .live ≡ budget) × (noneOpen checks n choose st ≡ false)
   Said Stopped st = st .turns ≡ limit
+
+  -- A finished half has no open qubit.
+  pub said-shut : (w : Word) (st : State) → finished? w ≡ true → Said w st → noneOpen checks n choose st ≡ true
+  said-shut Certain st e s = s .0
+  said-shut Unsure st e s = s .0
+  said-shut None st e s = never e refl
+  said-shut Spent st e s = never e refl
+  said-shut Stopped st e s = never e refl
 
   -- What no word says: a turn is to be made.
   pub record Unsaid (st : State) : Type 0 where
@@ -78,7 +86,7 @@ module _ (checks : List Check) (n : ℕ) (choose : Qubits → Option ℕ) (budge
         look false true c i j k = f Stopped refl (eqb-eq (st .turns) limit j)
         look false false true i j k =
             let z = and-out (not (dangles checks n choose st)) (eqb (st .forms .live) budget) k in
-            f Spent refl (none-dangles (dangling (isOpen (st .mark)) checks) refl (not-out (dangles checks n choose st) (z .0)), eqb-eq (st .forms .live) budget (z .1))
+            f Spent refl (none-dangles (dangling (isOpen (st .mark)) checks) refl (not-out (dangles checks n choose st) (z .0)), eqb-eq (st .forms .live) budget (z .1), i)
         look false false false i j k = g (record { some-open = i; room = j; free = k })
 
 ----------------------------------------------------------------------

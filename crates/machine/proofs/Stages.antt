@@ -9,7 +9,7 @@ use Prim.Native.Nat.{ℕ, suc}
 use native.Mathlib.Nat.{not-suc-le-zero}
 use lib.Dec.{eqb}
 use Rattle.binary.specs.Meaning.{Qubits, Row, Check}
-use Rattle.binary.proofs.Bits.{bit, never, &&-false, eq-eqb, and-out, and-in, not-in}
+use Rattle.binary.proofs.Bits.{bit, never, &&-false, &&-true, eq-eqb, and-out, and-in, not-in}
 use Rattle.machine.specs.Machine.{Forms, blank, State, Stage, on, failed, put, isOpen, part, empty?, only, closed?, orElse, dangling, takeUpAll, closing, stage, startMark, start, settle, peel, guess, turn}
 use Rattle.machine.proofs.Settling.{Decided, closed-decided, Solution, Invariant, Plus, solution-sub, shut-less, peel-keeps, guess-keeps}
 use Rattle.machine.proofs.TakingUp.{Result, Also, result-iff, take-all-keeps}
@@ -60,6 +60,10 @@ pub start-open : (lost fixed : Bool) → eqb (cond lost (cond fixed 1 4) 0) 4 �
 start-open true true = refl
 start-open true false = refl
 start-open false b = refl
+
+-- With no qubit fixed the lost ones are open.
+pub unfixed-open : (lost : Qubits) → isOpen (startMark lost (λ q. false)) ≡ lost
+unfixed-open lost = fun-ext λ q. start-open (lost q) false ∙ &&-true (lost q) refl
 
 abbrev pub Closed : List Check → Qubits → Check → Type 0
 Closed checks o c = List·Memᴰ c checks × (closed? o c ≡ true)

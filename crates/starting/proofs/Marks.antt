@@ -20,6 +20,7 @@ use Rattle.code.specs.Tests.{Ascending}
 use Rattle.code.proofs.Order.{rows-below}
 use Rattle.machine.specs.Machine.{isOpen, startMark}
 use Rattle.machine.specs.Lists.{view}
+use Rattle.machine.proofs.Stages.{unfixed-open}
 use Rattle.starting.specs.Starting.{openMark}
 use Rattle.packing.specs.PackedRows.{RowsPut}
 use Rattle.packing.proofs.PackedRows.{rows-count}
@@ -50,11 +51,7 @@ module _ (n : ℕ) (lost marks : List ℕ) where
     open-marks = marks-are (λ q. false) opened
 
     pub open-lost : isOpen (view n marks) ≡ listed n lost
-    open-lost = ap isOpen open-marks ∙ fun-ext (λ q. same (listed n lost q))
-      where
-        same : (b : Bool) → eqb (cond b (cond false 1 4) 0) 4 ≡ b
-        same true = refl
-        same false = refl
+    open-lost = ap isOpen open-marks ∙ unfixed-open (listed n lost)
 
 -- The fixed qubits marked where every lost qubit is open.
 module _ (n : ℕ) (flat ends lost : List ℕ) (other others : ℕ) (marks marks′ work work₁ work₂ : List ℕ) (r : Search)

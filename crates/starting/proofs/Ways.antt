@@ -1,6 +1,6 @@
 -- The two ways of a start: the lost qubits peel away, or the search is made. Assumes nothing.
 use mathlib.Core.Path.{_≡_, refl, sym, ap, _∙_, fun-ext, subst}
-use mathlib.Core.Bool.{Bool, true, false, not}
+use mathlib.Core.Bool.{Bool, true, false}
 use mathlib.Core.Logic.{_⊎_, inl, inr}
 use mathlib.Core.List.{List}
 use Prim.Native.Nat.{ℕ, zero, suc, _+_, _≤_, _<_}
@@ -11,7 +11,7 @@ use borrow.Author.Tests.{leb-true, le-leb, lt-leb}
 use Rattle.binary.specs.Meaning.{Qubits, Row, All, Commute}
 use Rattle.binary.specs.Words.{listed}
 use Rattle.binary.specs.Classes.{Commuting}
-use Rattle.binary.proofs.Bits.{bit, never, and-out, not-out}
+use Rattle.binary.proofs.Bits.{never, and-out}
 use Rattle.lists.specs.Copied.{apart?, Copied}
 use Rattle.code.specs.Lists.{rowsFrom}
 use Rattle.code.specs.Tests.{Ascending}
@@ -70,7 +70,7 @@ unfolding filling.fits?
 filled-keeps n c marks work work′ size few last lit words f good =
     let t : filling.fits? n c (length work) ≡ true
     = rw (le-leb n 1024 size, le-leb (c .count) 512 few, le-leb (c .first + c .count) 1024 last, le-leb 9216 (length work) words, le-leb (c .first + c .count) (length (c .lit)) lit) in
-    record { kept = f .kept t; on = f .rows t good }
+    record { kept = f .kept t good; on = f .rows t good }
 
 ----------------------------------------------------------------------
 -- What is kept of the rows, copied and back
@@ -186,49 +186,63 @@ module _ (n : ℕ) (c : RowLists) (lost : List ℕ) (other others : ℕ) (work w
 -- The promise
 
 -- What the functions below ask.
-pub record Fitting (n : ℕ) (c : RowLists) (lost : List ℕ) (other others : ℕ) (work marks : List ℕ) : Type 0 where
+pub record Fitting (n lost lit first count other others work marks : ℕ) : Type 0 where
   pub size : n ≤ 1024
-  pub few : c .count ≤ 512
+  pub few : count ≤ 512
   pub many : others ≤ 512
-  pub first : c .first ≤ 512
-  pub other-first : other ≤ 512
-  pub words : 10240 ≤ length work
-  pub lost-long : n ≤ length lost
-  pub lit : c .first + c .count ≤ length (c .lit)
-  pub marks-long : n ≤ length marks
+  pub start : first ≤ 512
+  pub other-start : other ≤ 512
+  pub words : 10240 ≤ work
+  pub lost-long : n ≤ lost
+  pub lit-long : first + count ≤ lit
+  pub marks-long : n ≤ marks
 
-module _ (n : ℕ) (c : RowLists) (lost : List ℕ) (other others : ℕ) (work marks : List ℕ) (told : Bool) (tells : told ≡ fitting n c lost other others work marks) where
-  pub starts-not : not told ≡ true → Starts n c lost other others work work marks marks
-  starts-not e =
-      record { work-long = refl; marks-long = refl; rest = λ q h. refl; refused = λ u. (refl, refl); begun = λ u. never u (sym tells ∙ not-out told e) }
+pub fits-out : {n lost lit first count other others work marks : ℕ} → fits? n lost lit first count other others work marks ≡ true
+    → Fitting n lost lit first count other others work marks
+unfolding fits?
+fits-out {n} {lost} {lit} {first} {count} {other} {others} {work} {marks} fits =
+    let a = and-out _ (leb n marks) fits in
+    let b = and-out _ (leb (first + count) lit) (a .0) in
+    let d = and-out _ (leb n lost) (b .0) in
+    let f = and-out _ (leb 10240 work) (d .0) in
+    let g = and-out _ (leb other 512) (f .0) in
+    let h = and-out _ (leb first 512) (g .0) in
+    let i = and-out _ (leb others 512) (h .0) in
+    let j = and-out (leb n 1024) (leb count 512) (i .0) in
+    record {
+      size = leb-true _ _ (j .0);
+      few = leb-true _ _ (j .1);
+      many = leb-true _ _ (i .1);
+      start = leb-true _ _ (h .1);
+      other-start = leb-true _ _ (g .1);
+      words = leb-true _ _ (f .1);
+      lost-long = leb-true _ _ (d .1);
+      lit-long = leb-true _ _ (b .1);
+      marks-long = leb-true _ _ (a .1);
+    }
 
-  does-fit : not told ≡ false → fitting n c lost other others work marks ≡ true
-  does-fit e = bit (fitting n c lost other others work marks) (λ y. y) (λ y. never (ap not (tells ∙ y)) e)
+module _ (n : ℕ) (c : RowLists) (lost : List ℕ) (other others : ℕ) (work marks : List ℕ) where
+  pub starts-not : fitting n c lost other others work marks ≡ false → Starts n c lost other others work work marks marks
+  starts-not e = record { work-long = refl; marks-long = refl; rest = λ q h. refl; refused = λ u. (refl, refl); begun = λ u. never u e }
 
-  pub fits-out : not told ≡ false → Fitting n c lost other others work marks
-  unfolding fits?
-  fits-out e =
-      let a = and-out _ (leb n (length marks)) (does-fit e) in
-      let b = and-out _ (leb (c .first + c .count) (length (c .lit))) (a .0) in
-      let d = and-out _ (leb n (length lost)) (b .0) in
-      let f = and-out _ (leb 10240 (length work)) (d .0) in
-      let g = and-out _ (leb other 512) (f .0) in
-      let h = and-out _ (leb (c .first) 512) (g .0) in
-      let i = and-out _ (leb others 512) (h .0) in
-      let j = and-out (leb n 1024) (leb (c .count) 512) (i .0) in
+  -- The search is made where every lost qubit is marked open.
+  pub starts-searched : fitting n c lost other others work marks ≡ true → (work₁ marks₁ work₂ marks₂ : List ℕ) → length work₁ ≡ length work → Filled (openMark n lost) n marks marks₁
+      → Searched n c lost other others work₁ work₂ marks₁ marks₂ → Starts n c lost other others work work₂ marks marks₂
+  starts-searched e work₁ marks₁ work₂ marks₂ long opened v =
       record {
-        size = leb-true _ _ (j .0);
-        few = leb-true _ _ (j .1);
-        many = leb-true _ _ (i .1);
-        first = leb-true _ _ (h .1);
-        other-first = leb-true _ _ (g .1);
-        words = leb-true _ _ (f .1);
-        lost-long = leb-true _ _ (d .1);
-        lit = leb-true _ _ (b .1);
-        marks-long = leb-true _ _ (a .1);
+        work-long = v .work-long ∙ long;
+        marks-long = v .marks-long ∙ opened .long;
+        rest = λ q h. v .rest q h ∙ opened .rest q h;
+        refused = λ u. never e u;
+        begun = λ u good others-good even.
+            let f = fits-out e in
+            record {
+              marked = v .marked (opened .first) others-good;
+              keeps = v .keeps (f .lit-long) (f .start) (f .few) good;
+            };
       }
 
-  module _ (e : not told ≡ false) (work₁ marks₁ : List ℕ) (r : Bool) (first : PeeledFirst n c lost work work₁ marks marks₁ r) where
+  module _ (e : fitting n c lost other others work marks ≡ true) (work₁ marks₁ : List ℕ) (r : Bool) (first : PeeledFirst n c lost work work₁ marks marks₁ r) where
     -- The lost qubits peel away, and what was kept of the rows is back in its place.
     pub starts-peeled : r ≡ true → (work₂ : List ℕ) → Restores (c .count) work₁ work₂ → Starts n c lost other others work work₂ marks marks₁
     starts-peeled away work₂ restored =
@@ -236,16 +250,14 @@ module _ (n : ℕ) (c : RowLists) (lost : List ℕ) (other others : ℕ) (work m
           work-long = restored .long ∙ first .long;
           marks-long = first .opened .long;
           rest = first .opened .rest;
-          refused = λ u. never (does-fit e) u;
+          refused = λ u. never e u;
           begun = λ u good others-good even. begun good others-good even;
         }
       where
-        f : Fitting n c lost other others work marks
-        f = fits-out e
-
         begun : GoodRows n c → All (Ascending n) (rowsFrom (c .flat) (c .ends) other others)
             → Commute (rowsFrom (c .flat) (c .ends) (c .first) (c .count)) (rowsFrom (c .flat) (c .ends) other others) → Begun n c lost other others work₂ marks₁
         begun good others-good even =
+            let f = fits-out e in
             let s = first .saved good in
             let leaves : peelsAway (rowChecks c) n (listed n lost) ≡ true = sym (first .told good) ∙ away in
             let none-fixed = unfixed n (rowsFrom (c .flat) (c .ends) other others) (listed n lost) (rowChecks c) (rows-below n (rowsFrom (c .flat) (c .ends) other others) others-good)
@@ -255,19 +267,3 @@ module _ (n : ℕ) (c : RowLists) (lost : List ℕ) (other others : ℕ) (work m
               keeps = keeps-same n c (s .work) work₂ marks₁ (f .size) (f .few) (λ k h. restored .stays k h ∙ s .below k h) (λ j h. restored .set j h ∙ s .set j h)
                   (λ j h. restored .counts j h ∙ s .counts j h) (s .keeps);
             }
-
-    -- The search is made.
-    pub starts-searched : (work₂ marks₂ : List ℕ) → Searched n c lost other others work₁ work₂ marks₁ marks₂ → Starts n c lost other others work work₂ marks marks₂
-    starts-searched work₂ marks₂ v =
-        record {
-          work-long = v .work-long ∙ first .long;
-          marks-long = v .marks-long ∙ first .opened .long;
-          rest = λ q h. v .rest q h ∙ first .opened .rest q h;
-          refused = λ u. never (does-fit e) u;
-          begun = λ u good others-good even.
-              let f = fits-out e in
-              record {
-                marked = v .marked (first .opened .first) others-good;
-                keeps = v .keeps (f .lit) (f .first) (f .few) good;
-              };
-        }

@@ -6,7 +6,7 @@
 --   PeeledFirst  whether the lost qubits peel away
 --   Searched     the fixed qubits marked
 --   Begun        the marks are the start's, and what is kept of the rows is right over them
---   Starts       the promise of `start`
+--   Starts       the promise of `start` and of `search`
 use mathlib.Core.Path.{_≡_}
 use mathlib.Core.Bool.{Bool, true, false, _&&_, cond}
 use mathlib.Core.List.{List}

@@ -1,5 +1,5 @@
 // The start of a half: its marks, and what is kept of its rows over them. Peeling comes first, and the search for fixed qubits is made only where it
-// leaves a qubit.
+// leaves a qubit. For a caller that peels by itself: the search at once.
 ghost use mathlib.Core.Path.{_≡_};
 ghost use Prim.Native.Nat.{_+_, _≤_};
 ghost use lib.ListN.{length};
@@ -110,6 +110,27 @@ fn fits(
         & (other.0 <= 512);
     let shot = small & (10240 <= work.len()) & (size <= lost.len());
     shot & (last <= lit.len()) & (size <= marks.len())
+}
+
+// The start by the search at once, for a half of which peeling is known to leave a qubit.
+pub fn search(
+    n: u16,
+    flat: &[u16],
+    ends: &[u16],
+    lost: &[u8],
+    lit: &[u8],
+    own: Rows,
+    others: Rows,
+    work: &mut [u64],
+    marks: &mut [u8],
+)
+    ensures { λ _. ⌜ Starts n (record { flat = now (flat .entry); ends = now (ends .entry); lit = now (lit .entry); first = own .first .0; count = own .count }) (now (lost .entry)) (others .first .0) (others .count) (now (work .entry)) (now (work .exit)) (now (marks .entry)) (now (marks .exit)) ⌝ }
+{
+    if !fits(n, lost, lit, own, others, work, marks) {
+        return;
+    }
+    start_marks(n as usize, lost, marks);
+    search_fixed(n, flat, ends, lost, lit, own, others, work, marks);
 }
 
 // The marks of the start: fixed qubits are settled, all other lost ones open. The work list has what is kept of the half's own rows. Nothing is written where

@@ -1,5 +1,7 @@
 -- `starting::start` meets its contract. Assumes nothing.
+use mathlib.Core.Path.{sym, _∙_}
 use native.Mathlib.Omega.{arith}
+use borrow.Author.Tests.{not-true, not-false}
 use Rattle.starting.proofs.Ways.{starts-not, fits-out, starts-peeled, starts-searched}
 use borrow.Author.Needs.{needs}
 use Rattle.starting.proofs.start.Statement.{statement}
@@ -15,20 +17,20 @@ same-length-2 : tie.Need-same-length-2
 same-length-2 c = search needs
 
 returns : tie.Need-returns
-returns c = starts-not _ (record { flat = c .before .before .before .before .before .before .before .before .before .before .args .flat .now; ends = c .before .before .before .before .before .before .before .before .before .before .args .ends .now; lit = c .before .before .before .before .before .before .before .before .before .before .args .lit .now; first = c .before .before .before .before .before .before .before .before .before .before .args .own .first .0; count = c .before .before .before .before .before .before .before .before .before .before .args .own .count }) (c .before .before .before .before .before .before .before .before .before .before .args .lost .now) (c .before .before .before .before .before .before .before .before .before .before .args .others .first .0) (c .before .before .before .before .before .before .before .before .before .before .args .others .count) (c .before .before .before .before .before .before .before .before .before .before .args .work .now) (c .before .before .before .before .before .before .before .before .before .before .args .marks .now) _ (c .before .fits2 .ensures) (c .if1 .taken)
+returns c = starts-not _ _ _ _ _ _ _ (sym (c .before .fits2 .ensures) ∙ not-true _ (c .if1 .taken))
 
 peel-first-requires : tie.Need-peel-first-requires
 peel-first-requires c κs =
-    let f = fits-out _ (record { flat = c .before .before .before .before .before .before .before .before .before .before .before .before .args .flat .now; ends = c .before .before .before .before .before .before .before .before .before .before .before .before .args .ends .now; lit = c .before .before .before .before .before .before .before .before .before .before .before .before .args .lit .now; first = c .before .before .before .before .before .before .before .before .before .before .before .before .args .own .first .0; count = c .before .before .before .before .before .before .before .before .before .before .before .before .args .own .count }) (c .before .before .before .before .before .before .before .before .before .before .before .before .args .lost .now) (c .before .before .before .before .before .before .before .before .before .before .before .before .args .others .first .0) (c .before .before .before .before .before .before .before .before .before .before .before .before .args .others .count) (c .before .before .before .before .before .before .before .before .before .before .before .before .args .work .now) (c .before .before .before .before .before .before .before .before .before .before .before .before .args .marks .now) _ (c .before .before .before .fits2 .ensures) (c .before .before .if1 .left) in
-    (f .size, f .few, f .first, f .words, f .lost-long, f .marks-long, f .lit)
+    let f = fits-out (sym (c .before .before .before .fits2 .ensures) ∙ not-false _ (c .before .before .if1 .left)) in
+    (f .size, f .few, f .start, f .words, f .lost-long, f .marks-long, f .lit-long)
 
 cast-restore : tie.Need-cast-restore
 cast-restore c = search needs
 
 restore-requires : tie.Need-restore-requires
 restore-requires c κs =
-    let f = fits-out _ (record { flat = c .before .before .before .before .before .before .before .before .before .before .before .before .before .before .before .before .before .before .before .before .args .flat .now; ends = c .before .before .before .before .before .before .before .before .before .before .before .before .before .before .before .before .before .before .before .before .args .ends .now; lit = c .before .before .before .before .before .before .before .before .before .before .before .before .before .before .before .before .before .before .before .before .args .lit .now; first = c .before .before .before .before .before .before .before .before .before .before .before .before .before .before .before .before .before .before .before .before .args .own .first .0; count = c .before .before .before .before .before .before .before .before .before .before .before .before .before .before .before .before .before .before .before .before .args .own .count }) (c .before .before .before .before .before .before .before .before .before .before .before .before .before .before .before .before .before .before .before .before .args .lost .now) (c .before .before .before .before .before .before .before .before .before .before .before .before .before .before .before .before .before .before .before .before .args .others .first .0) (c .before .before .before .before .before .before .before .before .before .before .before .before .before .before .before .before .before .before .before .before .args .others .count) (c .before .before .before .before .before .before .before .before .before .before .before .before .before .before .before .before .before .before .before .before .args .work .now) (c .before .before .before .before .before .before .before .before .before .before .before .before .before .before .before .before .before .before .before .before .args .marks .now) _ (c .before .before .before .before .before .before .before .before .before .before .before .fits2 .ensures) (c .before .before .before .before .before .before .before .before .before .before .if1 .left) in
-    (f .few, omega (arith, f .words, c .before .before .before .before .before .before .before .peel-first .ensures .long))
+    let f = fits-out (sym (c .before .before .before .before .before .before .before .before .before .before .before .fits2 .ensures) ∙ not-false _ (c .before .before .before .before .before .before .before .before .before .before .if1 .left)) in
+    (omega arith, omega (arith, f .words, c .before .before .before .before .before .before .before .peel-first .ensures .long))
 
 same-length-3 : tie.Need-same-length-3
 same-length-3 c = search needs
@@ -37,13 +39,13 @@ same-length-4 : tie.Need-same-length-4
 same-length-4 c = search needs
 
 returns-2 : tie.Need-returns-2
-returns-2 c = starts-peeled _ (record { flat = c .before .before .before .before .before .before .before .before .before .before .before .before .before .before .before .before .before .before .before .before .before .before .before .args .flat .now; ends = c .before .before .before .before .before .before .before .before .before .before .before .before .before .before .before .before .before .before .before .before .before .before .before .args .ends .now; lit = c .before .before .before .before .before .before .before .before .before .before .before .before .before .before .before .before .before .before .before .before .before .before .before .args .lit .now; first = c .before .before .before .before .before .before .before .before .before .before .before .before .before .before .before .before .before .before .before .before .before .before .before .args .own .first .0; count = c .before .before .before .before .before .before .before .before .before .before .before .before .before .before .before .before .before .before .before .before .before .before .before .args .own .count }) (c .before .before .before .before .before .before .before .before .before .before .before .before .before .before .before .before .before .before .before .before .before .before .before .args .lost .now) (c .before .before .before .before .before .before .before .before .before .before .before .before .before .before .before .before .before .before .before .before .before .before .before .args .others .first .0) (c .before .before .before .before .before .before .before .before .before .before .before .before .before .before .before .before .before .before .before .before .before .before .before .args .others .count) (c .before .before .before .before .before .before .before .before .before .before .before .before .before .before .before .before .before .before .before .before .before .before .before .args .work .now) (c .before .before .before .before .before .before .before .before .before .before .before .before .before .before .before .before .before .before .before .before .before .before .before .args .marks .now) _ (c .before .before .before .before .before .before .before .before .before .before .before .before .before .before .fits2 .ensures) (c .before .before .before .before .before .before .before .before .before .before .before .before .before .if1 .left) _ _ _ (c .before .before .before .before .before .before .before .before .before .before .peel-first .ensures) (c .before .before .before .before .before .if2 .taken) _ (c .before .before .restore .ensures)
+returns-2 c = starts-peeled _ _ _ _ _ _ _ (sym (c .before .before .before .before .before .before .before .before .before .before .before .before .before .before .fits2 .ensures) ∙ not-false _ (c .before .before .before .before .before .before .before .before .before .before .before .before .before .if1 .left)) _ _ _ (c .before .before .before .before .before .before .before .before .before .before .peel-first .ensures) (c .before .before .before .before .before .if2 .taken) _ (c .before .before .restore .ensures)
 
 search-fixed-requires : tie.Need-search-fixed-requires
 search-fixed-requires c κs =
-    let f = fits-out _ (record { flat = c .before .before .before .before .before .before .before .before .before .before .before .before .before .before .before .before .before .before .before .before .args .flat .now; ends = c .before .before .before .before .before .before .before .before .before .before .before .before .before .before .before .before .before .before .before .before .args .ends .now; lit = c .before .before .before .before .before .before .before .before .before .before .before .before .before .before .before .before .before .before .before .before .args .lit .now; first = c .before .before .before .before .before .before .before .before .before .before .before .before .before .before .before .before .before .before .before .before .args .own .first .0; count = c .before .before .before .before .before .before .before .before .before .before .before .before .before .before .before .before .before .before .before .before .args .own .count }) (c .before .before .before .before .before .before .before .before .before .before .before .before .before .before .before .before .before .before .before .before .args .lost .now) (c .before .before .before .before .before .before .before .before .before .before .before .before .before .before .before .before .before .before .before .before .args .others .first .0) (c .before .before .before .before .before .before .before .before .before .before .before .before .before .before .before .before .before .before .before .before .args .others .count) (c .before .before .before .before .before .before .before .before .before .before .before .before .before .before .before .before .before .before .before .before .args .work .now) (c .before .before .before .before .before .before .before .before .before .before .before .before .before .before .before .before .before .before .before .before .args .marks .now) _ (c .before .before .before .before .before .before .before .before .before .before .before .fits2 .ensures) (c .before .before .before .before .before .before .before .before .before .before .if1 .left) in
+    let f = fits-out (sym (c .before .before .before .before .before .before .before .before .before .before .before .fits2 .ensures) ∙ not-false _ (c .before .before .before .before .before .before .before .before .before .before .if1 .left)) in
     let v = c .before .before .before .before .before .before .before .peel-first .ensures in
-    (f .size, f .many, f .other-first, omega (arith, f .words, v .long), f .lost-long, omega (arith, f .marks-long, v .opened .long))
+    (f .size, f .many, f .other-start, omega (arith, f .words, v .long), f .lost-long, omega (arith, f .marks-long, v .opened .long))
 
 same-length-5 : tie.Need-same-length-5
 same-length-5 c = search needs
@@ -52,7 +54,7 @@ same-length-6 : tie.Need-same-length-6
 same-length-6 c = search needs
 
 returns-3 : tie.Need-returns-3
-returns-3 c = starts-searched _ (record { flat = c .before .before .before .before .before .before .before .before .before .before .before .before .before .before .before .before .before .before .before .before .before .before .before .before .before .args .flat .now; ends = c .before .before .before .before .before .before .before .before .before .before .before .before .before .before .before .before .before .before .before .before .before .before .before .before .before .args .ends .now; lit = c .before .before .before .before .before .before .before .before .before .before .before .before .before .before .before .before .before .before .before .before .before .before .before .before .before .args .lit .now; first = c .before .before .before .before .before .before .before .before .before .before .before .before .before .before .before .before .before .before .before .before .before .before .before .before .before .args .own .first .0; count = c .before .before .before .before .before .before .before .before .before .before .before .before .before .before .before .before .before .before .before .before .before .before .before .before .before .args .own .count }) (c .before .before .before .before .before .before .before .before .before .before .before .before .before .before .before .before .before .before .before .before .before .before .before .before .before .args .lost .now) (c .before .before .before .before .before .before .before .before .before .before .before .before .before .before .before .before .before .before .before .before .before .before .before .before .before .args .others .first .0) (c .before .before .before .before .before .before .before .before .before .before .before .before .before .before .before .before .before .before .before .before .before .before .before .before .before .args .others .count) (c .before .before .before .before .before .before .before .before .before .before .before .before .before .before .before .before .before .before .before .before .before .before .before .before .before .args .work .now) (c .before .before .before .before .before .before .before .before .before .before .before .before .before .before .before .before .before .before .before .before .before .before .before .before .before .args .marks .now) _ (c .before .before .before .before .before .before .before .before .before .before .before .before .before .before .before .before .fits2 .ensures) (c .before .before .before .before .before .before .before .before .before .before .before .before .before .before .before .if1 .left) _ _ _ (c .before .before .before .before .before .before .before .before .before .before .before .before .peel-first .ensures) _ _ (c .before .before .before .before .search-fixed .ensures)
+returns-3 c = starts-searched _ _ _ _ _ _ _ (sym (c .before .before .before .before .before .before .before .before .before .before .before .before .before .before .before .before .fits2 .ensures) ∙ not-false _ (c .before .before .before .before .before .before .before .before .before .before .before .before .before .before .before .if1 .left)) _ _ _ _ (c .before .before .before .before .before .before .before .before .before .before .before .before .peel-first .ensures .long) (c .before .before .before .before .before .before .before .before .before .before .before .before .peel-first .ensures .opened) (c .before .before .before .before .search-fixed .ensures)
 
 pub start-spec : {M : Type 1} → statement M
 start-spec =

@@ -1,16 +1,13 @@
 -- `halves::decode::decode` meets its contract. Assumes nothing.
-use mathlib.Core.Path.{_∙_}
 use native.Mathlib.Omega.{arith}
-use Rattle.halves.proofs.HalfDecodes.{start-fits, turns-fit, turns-made, half-done}
+use Rattle.halves.proofs.HalfRuns.{not-refused}
+use Rattle.halves.proofs.HalfDecodes.{half-done}
 use borrow.Author.Needs.{needs}
 use Rattle.halves.proofs.decode.decode.Statement.{statement}
 use Rattle.halves.proofs.decode.decode.Tie as tie
 
-start-requires : tie.Need-start-requires
-start-requires c κs = search needs
-
-run-turns-requires : tie.Need-run-turns-requires
-run-turns-requires c κs = search needs
+run-half-requires : tie.Need-run-half-requires
+run-half-requires c κs = search needs
 
 enum-known-ran : tie.Need-enum-known-ran
 enum-known-ran c = search needs
@@ -31,17 +28,13 @@ same-length-3 : tie.Need-same-length-3
 same-length-3 c = search needs
 
 returns : tie.Need-returns
-returns c =
-    let p = c .before .before .before .before .before .before .before .before .before .before .before .before .before .before .before .before .before .before .before .before .before .before .before .before .before .before .before .before .pre in
-    let s = c .before .before .before .before .before .before .before .before .before .before .before .before .before .before .before .before .before .start .ensures in
-    turns-made _ _ _ _ _ _ _ (c .before .before .before .before .before .before .before .before .before .run-turns .ensures) (turns-fit _ _ _ _ _ _ _ (omega (arith, p)) (omega (arith, p)) (omega (arith, p)) (omega (arith, p, s .work-long)) (omega (arith, p)) (omega (arith, p, s .marks-long)) (omega (arith, p))) (c .before .enum-told .given .1)
+returns c = not-refused _ _ (c .before .before .before .before .before .before .before .before .before .run-half .ensures .over .1) (c .before .enum-told .given .1)
 
 finish-requires : tie.Need-finish-requires
 finish-requires c κs =
-    let p = c .before .before .before .before .before .before .before .before .before .before .before .before .before .before .before .before .before .before .before .before .before .before .before .before .before .before .before .before .before .before .before .pre in
-    let s = c .before .before .before .before .before .before .before .before .before .before .before .before .before .before .before .before .before .before .before .before .start .ensures in
-    let k = c .before .before .before .before .before .before .before .before .before .before .before .before .run-turns .ensures .stays in
-    (omega (arith, p, s .marks-long, k .marks-long), omega (arith, p, k .forms-long), omega (arith, p))
+    let p = c .before .before .before .before .before .before .before .before .before .before .before .before .before .before .before .before .before .before .before .before .before .before .before .before .pre in
+    let k = c .before .before .before .before .before .before .before .before .before .before .before .before .run-half .ensures .stays in
+    (omega (arith, p, k .marks-long), omega (arith, p, k .forms-long), omega (arith, p))
 
 same-length-4 : tie.Need-same-length-4
 same-length-4 c = search needs
@@ -57,17 +50,14 @@ same-length-7 c = search needs
 
 returns-2 : tie.Need-returns-2
 returns-2 c =
-    let p = c .before .before .before .before .before .before .before .before .before .before .before .before .before .before .before .before .before .before .before .before .before .before .before .before .before .before .before .before .before .before .before .before .before .before .before .before .before .before .pre in
-    let s = c .before .before .before .before .before .before .before .before .before .before .before .before .before .before .before .before .before .before .before .before .before .before .before .before .before .before .before .start .ensures in
-    let v = c .before .before .before .before .before .before .before .before .before .before .before .before .before .before .before .before .before .before .before .run-turns .ensures in
-    (v .stays .work-long ∙ s .work-long, half-done _ _ _ _ _ _ _ _ _ _ _ _ _ _ _ _ _ s (start-fits _ _ _ _ _ _ _ _ _ (omega (arith, p)) (omega (arith, p)) (omega (arith, p)) (omega (arith, p)) (omega (arith, p)) (omega (arith, p)) (omega (arith, p)) (omega (arith, p)) (omega (arith, p))) v (turns-fit _ _ _ _ _ _ _ (omega (arith, p)) (omega (arith, p)) (omega (arith, p)) (omega (arith, p, s .work-long)) (omega (arith, p)) (omega (arith, p, s .marks-long)) (omega (arith, p))) (c .before .before .before .before .before .before .before .before .before .before .before .ran .given .1) (c .before .before .before .before .before .before .finish .ensures) (λ i. omega (arith, c .before .before .slice-known11 .given i)))
+    let v = c .before .before .before .before .before .before .before .before .before .before .before .before .before .before .before .before .before .before .before .run-half .ensures in
+    (v .stays .work-long, half-done _ _ _ _ _ _ _ _ _ _ _ _ _ v (c .before .before .before .before .before .before .before .before .before .before .before .ran .given .1) (c .before .before .before .before .before .before .finish .ensures) (λ i. omega (arith, c .before .before .slice-known9 .given i)))
 
 pub decode-spec : {M : Type 1} → statement M
 decode-spec =
     tie.close
     (tie.spec
-    start-requires
-    run-turns-requires
+    run-half-requires
     enum-known-ran
     enum-told
     nothing-requires

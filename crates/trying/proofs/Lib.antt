@@ -1,0 +1,12 @@
+pub mod RowNumbers
+pub mod WritingNumbers
+pub mod OnQubit
+pub mod Walking
+pub mod OpeningRows
+pub mod SettlingRows
+pub mod Starting
+pub mod Values
+pub mod SettlingQubit
+pub mod Peeling
+pub mod Running
+pub mod Trying

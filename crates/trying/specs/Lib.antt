@@ -1,0 +1,4 @@
+pub mod Entries
+pub mod Start
+pub mod Turns
+pub mod Trying
