@@ -13,7 +13,7 @@ use lib.Seq.{getD-set-same, getD-set-other}
 use Rattle.binary.specs.Bits.{_⊕_}
 use Rattle.binary.specs.Words.{bit}
 use Rattle.binary.proofs.WordBits.{bit-xor, bit-and, bit-zero}
-use Rattle.columns.specs.Planes.{planes, numberAt, Carried}
+use Rattle.columns.specs.Planes.{planes, numberAt, Carried, number}
 use Rattle.binary.proofs.Weights.{weigh-change}
 use Rattle.columns.proofs.Numbers.{number-at}
 use Rattle.numbering.specs.Numbering.{Rippled, Counted}
@@ -76,6 +76,19 @@ carried-then true into between out a b c s t = omega (arith, s, t)
 
 ----------------------------------------------------------------------
 -- The numbers of the columns of a word
+
+-- No column of the word is to be counted.
+pub counted-nothing : (k bits other : ℕ) (m : List ℕ) → bits ≡ 0 → Counted k bits other m m
+counted-nothing k bits other m z =
+    record {
+      long = refl;
+      sums = λ b h. (false, rw (z, bit-zero b) (still (bit other b) (number m (64 * k + b))));
+      kept = λ j h. refl;
+    }
+  where
+    still : (d : Bool) (x : ℕ) → Carried d 0 0 x x
+    still false x = refl
+    still true x = refl
 
 module _ (k bits other : ℕ) (m m′ : List ℕ) (carry : ℕ) (s : Rippled (8192 + 16 * k) 0 4 bits other m m′ carry) where
   -- Nothing goes on to the fifth plane.

@@ -79,15 +79,6 @@ module _ (down into : ℕ → Bool) (m₀ : List ℕ) where
               (subst (λ (x : Bool). Carried (bit other b) (cond x 1 0) (cond (z .0) 1024 0) (number m₁ (64 * k + b)) (number m₂ (64 * k + b))) (i b h) (z .1)),
         ))
 
-    -- No column of the word is to be counted.
-    pub counting-skipped : ((b : ℕ) → b < 64 → into (64 * k + b) ≡ false) → Counting (k + 1) down into m₀ m
-    counting-skipped i =
-        counting-more m m (λ j h. refl) (λ j h. refl) (λ b h. (false, rw (i b h) (still (down (64 * k + b)) (number m (64 * k + b)))))
-      where
-        still : (d : Bool) (x : ℕ) → Carried d 0 0 x x
-        still false x = refl
-        still true x = refl
-
 -- The untaken bits of a row's word.
 pub untaken-bits : (k : ℕ) (m₀ m : List ℕ) → Stays m₀ m → (word b : ℕ) → b < 64
     → bit (bitAnd word (getD m (8448 + k) 0)) b ≡ (bit word b && untaken m₀ (64 * k + b))

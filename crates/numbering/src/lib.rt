@@ -35,6 +35,9 @@ fn count(m: &mut [u64], k: usize, bits: u64, other: u64)
     requires { ⌜ (k < 16) × (10240 ≤ length (now m)) ⌝ }
     ensures { λ _. ⌜ Counted k bits other (now (m .entry)) (now (m .exit)) ⌝ }
 {
+    if bits == 0 {
+        return;
+    }
     let at = PLANES + 16 * k;
     let carry = ripple(m, at, 0, 4, bits, other);
     if carry != 0 {
@@ -125,9 +128,7 @@ fn number_row(m: &mut [u64], w: usize, i: usize)
     let mut k = 0;
     while k < w {
         let bits = m[a + k] & m[UNTAKEN + k];
-        if bits != 0 {
-            count(m, k, bits, 0);
-        }
+        count(m, k, bits, 0);
         k += 1;
     }
 }

@@ -1,15 +1,14 @@
 -- `numbering::number_row` meets its contract. Assumes nothing.
-use mathlib.Core.Path.{_≡_, refl, sym, ap, _∙_}
-use mathlib.Core.Logic.{inl, ⊎-elim}
+use mathlib.Core.Path.{_≡_, refl, _∙_}
+use mathlib.Core.Logic.{inl}
 use mathlib.Core.Bool.{false, _&&_}
 use Prim.Native.Nat.{ℕ, _-_, _≤_, _<_}
 use native.Mathlib.Omega.{arith}
 use lib.ListN.{length, getD}
-use Rattle.binary.specs.Words.{bit}
 use Rattle.binary.proofs.WordBits.{bit-zero}
 use Rattle.packing.specs.Packed.{cell}
 use Rattle.columns.specs.Columns.{untaken}
-use Rattle.numbering.proofs.Counting.{Counting, counting-none, counting-word, counting-skipped, row-bits, counted-row}
+use Rattle.numbering.proofs.Counting.{Counting, counting-none, counting-word, row-bits, counted-row}
 use Rattle.numbering.proofs.number_row.Statement.{statement}
 use Rattle.numbering.proofs.number_row.Tie as tie
 
@@ -55,15 +54,15 @@ loop-less c = omega arith
 
 loop-again : tie.Need-loop-again Inv-loop μ-loop
 loop-again c =
-    let at = c .before .before .before .before in
+    let at = c .before .before .before .before .before .before .before in
     let a = at .before .before .args in
     let s = at .loop .inv in
-    let bits = row-bits (a .w) (a .i) (at .loop .k) (a .m .now) (at .loop .m) (s .2 _ (omega arith)) (s .3 .stays) in (
+    let bits = row-bits (a .w) (a .i) (at .loop .k) (a .m .now) (at .loop .m) (s .2 _ (omega arith)) (s .3 .stays) in
+    let done = c .before .before .count .ensures in (
       omega arith,
-      ⊎-elim (λ x. rw (x .5) (x .2 .ensures .long ∙ s .1)) (λ x. rw (x .1) (s .1)) (c .if1 .came),
-      ⊎-elim (λ x. λ j h. rw (x .5) (x .2 .ensures .kept j (inl (omega arith)) ∙ s .2 j h)) (λ x. λ j h. rw (x .1) (s .2 j h)) (c .if1 .came),
-      ⊎-elim (λ x. rw (x .5) (counting-word _ _ _ _ _ (s .3) (omega arith) _ _ _ _ (λ j h. refl) (x .2 .ensures) (λ b h. bit-zero b) bits))
-          (λ x. rw (x .1) (counting-skipped _ _ _ _ _ (s .3) (omega arith) (λ b h. sym (bits b h) ∙ ap (λ (y : ℕ). bit y b) (x .0 .left) ∙ bit-zero b))) (c .if1 .came),
+      done .long ∙ s .1,
+      λ j h. done .kept j (inl (omega arith)) ∙ s .2 j h,
+      counting-word _ _ _ _ _ (s .3) (omega arith) _ _ _ _ (λ j h. refl) done (λ b h. bit-zero b) bits,
     )
 
 same-length : tie.Need-same-length Inv-loop μ-loop
