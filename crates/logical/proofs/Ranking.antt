@@ -1,5 +1,5 @@
 -- The rank of rows, by the search with every column lost. Assumes nothing.
-use mathlib.Core.Path.{_≡_, refl, sym, ap, ap₂, _∙_, fun-ext}
+use mathlib.Core.Path.{_≡_, refl, sym, ap, _∙_, fun-ext}
 use mathlib.Core.Bool.{Bool, true, false, _&&_}
 use mathlib.Core.Logic.{⊎-elim}
 use mathlib.Core.List.{List}
@@ -67,7 +67,22 @@ module _ (n : ℕ) (flat ends : List ℕ) (first count : ℕ) (lost work work₁
             sym all ∙ sym (columns-count work₂ (m .1)) ∙ cleared ∙ cleared-rank n rs small;
       }
 
-pub both-ranked : (z : Sizes) (flat ends : List ℕ) (x-rank z-rank : ℕ) → RankOf (z .n) flat ends 0 (z .x) x-rank → RankOf (z .n) flat ends (z .x) (z .z) z-rank
-    → RanksOf z flat ends (x-rank + z-rank)
-both-ranked z flat ends x-rank z-rank a b =
-    record { few = omega (arith, a .few, b .few); are = λ c d. ap₂ _+_ (a .is c) (b .is d) }
+module _ (to : ℕ) (z : Sizes) (flat ends : List ℕ) where
+  pub x-ranked : to ≤ z .x → (r : ℕ) → RankOf (z .n) flat ends 0 (z .x) r → RanksOf (ltb (z .x) to) z flat ends r
+  x-ranked e r a = rw (le-ltb (z .x) to e) (record { few = a .few; are = λ c d. omega (arith, a .is c) })
+
+  pub both-ranked : z .x < to → (before r : ℕ) → RanksOf (ltb (z .x) (z .x)) z flat ends before → RankOf (z .n) flat ends (z .x) (z .z) r → RanksOf (ltb (z .x) to) z flat ends (before + r)
+  both-ranked e before r a b =
+      let x-only : RanksOf false z flat ends before = rw (le-ltb (z .x) (z .x) (omega arith)) at a in
+      rw (lt-ltb (z .x) to e) (record { few = omega (arith, x-only .few, b .few); are = λ c d. omega (arith, x-only .are c d, b .is d) })
+
+-- With the Z rows, of which there may be none.
+pub all-ranked : (z : Sizes) (flat ends : List ℕ) (r : ℕ) → RanksOf (ltb (z .x) (z .x + z .z)) z flat ends r → RanksOf true z flat ends r
+unfolding rank
+all-ranked z flat ends r a =
+    ⊎-elim (λ (l : z .x < z .x + z .z). rw (lt-ltb (z .x) (z .x + z .z) l) at a)
+    (λ (l : z .x + z .z ≤ z .x).
+    let x-only : RanksOf false z flat ends r = rw (le-ltb (z .x) (z .x + z .z) l) at a in
+    let none : z .z ≡ 0 = omega arith in
+    record { few = omega (arith, x-only .few); are = λ c d. x-only .are c d ∙ ap (rank (z .n) (rowsFrom flat ends 0 (z .x)) +_) (sym (ap (λ (k : ℕ). rank (z .n) (rowsFrom flat ends (z .x) k)) none)) })
+    (order (z .x) (z .x + z .z))

@@ -65,12 +65,12 @@ module _ (short : Bool) (k : ℕ) (st : State) (flat ends : List ℕ) (r : Reply
         refuse Short is (λ six shot. with-code st (held flat ends shot) (λ a. refusal short six (encodes k) a ≡ some Short) e
         (λ c s v. rw (short-of short told f (in-range c s shot v))))
 
-    module _ (f : (short || not told) ≡ false) (ranks : ℕ) (ranked : RanksOf (st .sizes) flat ends ranks) where
+    module _ (f : (short || not told) ≡ false) (ranks : ℕ) (ranked : RanksOf true (st .sizes) flat ends ranks) where
       together : (c : Code) (s : Shot) (shot : List ℕ) → Holds c s st (held flat ends shot) → ranks ≡ rank (c .n) (c .xs) + rank (c .n) (c .zs)
       together c s shot v =
           let xs = rows-first (c .xs) (c .zs) flat ends (v .flat) in
           let zs = rows-second (c .xs) (c .zs) flat ends (v .flat) in
-          let q = subst (λ (z : Sizes). RanksOf z flat ends ranks) (v .sizes) ranked in
+          let q = subst (λ (z : Sizes). RanksOf true z flat ends ranks) (v .sizes) ranked in
           q .are (subst (Below (c .n)) (sym xs) (rows-below (c .n) (c .xs) (v .good-xs .ascending))) (subst (Below (c .n)) (sym zs) (rows-below (c .n) (c .zs) (v .good-zs .ascending)))
           ∙ ap₂ _+_ (ap (rank (c .n)) xs) (ap (rank (c .n)) zs)
 

@@ -1,10 +1,10 @@
 -- What the record of logical qubits does.
 --   Few      the sizes are document 01's
 --   RankOf   the rank of rows in the lists of the code
---   RanksOf  the ranks of the X rows and of the Z rows, together
+--   RanksOf  the rank of the X rows, or with that of the Z rows
 --   Tests    the record is answered as the table says
 use mathlib.Core.Path.{_≡_}
-use mathlib.Core.Bool.{Bool}
+use mathlib.Core.Bool.{Bool, cond}
 use mathlib.Core.List.{List}
 use Prim.Native.Nat.{ℕ, _+_, _≤_}
 use Rattle.binary.specs.Meaning.{Row, Below}
@@ -27,10 +27,10 @@ pub record RankOf (n : ℕ) (flat ends : List ℕ) (first count r : ℕ) : Type 
   pub is : Below n (rowsFrom flat ends first count) → r ≡ rank n (rowsFrom flat ends first count)
 
 -- In the lists the Z rows follow the X rows.
-pub record RanksOf (z : Sizes) (flat ends : List ℕ) (r : ℕ) : Type 0 where
-  pub few : r ≤ 1024
+pub record RanksOf (with-z : Bool) (z : Sizes) (flat ends : List ℕ) (r : ℕ) : Type 0 where
+  pub few : r ≤ cond with-z 1024 512
   pub are : Below (z .n) (rowsFrom flat ends 0 (z .x)) → Below (z .n) (rowsFrom flat ends (z .x) (z .z))
-      → r ≡ rank (z .n) (rowsFrom flat ends 0 (z .x)) + rank (z .n) (rowsFrom flat ends (z .x) (z .z))
+      → r ≡ rank (z .n) (rowsFrom flat ends 0 (z .x)) + cond with-z (rank (z .n) (rowsFrom flat ends (z .x) (z .z))) 0
 
 -- For every input a refusal and an agreement leave the state that the table says. Unless the caller says that a list is short, the record is answered as
 -- the table says, whatever the shot's list holds.

@@ -1,5 +1,6 @@
 // The record of logical qubits: whether the rows encode as many as it says.
 ghost use mathlib.Core.Path.{_≡_};
+ghost use lib.Dec.{ltb};
 ghost use Prim.Native.Nat.{_≤_};
 ghost use Rattle.records.specs.declared.Answer.the-variants.{Taken};
 ghost use Rattle.logical.specs.Logical.{Few, RankOf, RanksOf, Tests};
@@ -32,23 +33,27 @@ fn rank(n: u16, flat: &[u16], ends: &[u16], rows: Rows) -> usize
     cleared.all
 }
 
-// The ranks of the X rows and of the Z rows, together.
-fn ranks(sizes: Sizes, flat: &[u16], ends: &[u16]) -> usize
+// The rank of the X rows, with that of the Z rows if `to`, where the rows end, lies behind the X rows. It calls itself, so that no compiler takes the room of `rank`
+// into a caller's frame: a record of another kind pays nothing for it.
+fn ranks(sizes: Sizes, flat: &[u16], ends: &[u16], to: u16) -> usize
     requires { ⌜ Few sizes ⌝ }
-    ensures { λ r. ⌜ RanksOf sizes (now (flat .entry)) (now (ends .entry)) r ⌝ }
+    ensures { λ r. ⌜ RanksOf (ltb (sizes .x) to) sizes (now (flat .entry)) (now (ends .entry)) r ⌝ }
 {
     let n = sizes.n;
     let x = sizes.x;
-    let z = sizes.z;
+    if x < to {
+        let before = ranks(sizes, flat, ends, x);
+        let z_rows = Rows {
+            first: Row(x),
+            count: sizes.z,
+        };
+        return before + rank(n, flat, ends, z_rows);
+    }
     let x_rows = Rows {
         first: Row(0),
         count: x,
     };
-    let z_rows = Rows {
-        first: Row(x),
-        count: z,
-    };
-    rank(n, flat, ends, x_rows) + rank(n, flat, ends, z_rows)
+    rank(n, flat, ends, x_rows)
 }
 
 // Agreement changes nothing: an open shot stays as it is.
@@ -72,7 +77,7 @@ pub fn test(st: State, k: u16, flat: &[u16], ends: &[u16], short: bool) -> Reply
     if short | !in_range(sizes.n, sizes.x, sizes.z) {
         return refused(st, Refusal::Short, false);
     }
-    let together = k as usize + ranks(sizes, flat, ends);
+    let together = k as usize + ranks(sizes, flat, ends, sizes.x + sizes.z);
     if together != sizes.n as usize {
         return refused(st, Refusal::Encoded, false);
     }
