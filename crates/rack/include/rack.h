@@ -27,7 +27,7 @@ extern "C" {
 /* ---- Numbers ---- */
 
 /* The version of records, lists and structs. */
-#define RACK_VERSION 7
+#define RACK_VERSION 8
 
 /* The kind of a record, its first byte. A row's is this and as many more as it has qubits. */
 enum rack_kind {
@@ -57,7 +57,7 @@ enum rack_most {
  * decode only: these are enough for every code. */
 enum rack_least {
     RACK_LEAST_FLAT = 16384,
-    RACK_LEAST_ENDS = 1024,
+    RACK_LEAST_ENDS = 16384,
     RACK_LEAST_SHOT = 2048,
     RACK_LEAST_WINDOW = 2560,
     RACK_LEAST_WORK = 10240,

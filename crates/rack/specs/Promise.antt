@@ -21,7 +21,7 @@ use Rattle.plain.specs.Plain.{stateOf, plainReply, wordOf, plainHalf, plainCand
 use Rattle.plain.specs.Counts.{plainWindow}
 
 abbrev pub version : ℕ
-version = 7
+version = 8
 
 -- The numbers of a reply that `stream::step` promises at the state that the numbers given stand for.
 pub record RackPromise (s : RackState) (bytes : List ℕ) (old new : Lent) (r : RackReply) : Type 0 where

@@ -6,7 +6,7 @@ mod run;
 // block of output answers.
 fn read_records() {
     let mut flat = [0u16; 16384];
-    let mut ends = [0u16; 1024];
+    let mut ends = [0u16; 16384];
     let mut shot = [0u8; 2048];
     let mut window = [0u16; 2560];
     let mut input = io::large_buffer();

@@ -28,7 +28,7 @@ pub fn list(random: &mut Random, list: usize, bytes: &mut [u8]) {
 /// Qubits of some code for `flat`, ends of rows that are plausible one by one for `ends`, words and small counts for
 /// `window`.
 fn plausible(random: &mut Random, list: usize, part: &mut [u8]) {
-    let shape = random.below(4);
+    let shape = random.below(5);
     let mut end = 0;
     for (at, element) in part.chunks_exact_mut(2).enumerate() {
         end = match (list, shape) {
@@ -37,6 +37,7 @@ fn plausible(random: &mut Random, list: usize, part: &mut [u8]) {
             (_, 0) => end + random.within(0, 16),
             (_, 1) => random.below(16_400),
             (_, 2) => random.within(16_380, 16_390),
+            (_, 3) => random.below(17),
             _ => at % 2 * random.pick(&[0, 200, 16_384]),
         };
         element.copy_from_slice(&(end as u16).to_ne_bytes());

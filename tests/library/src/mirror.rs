@@ -1,7 +1,7 @@
 //! What the model makes of each call: the reply, and the lists of code, shot and reports by
 //! docs/LISTS.md.
 
-use crate::lengths::{Lengths, ENDS, FLAT, HELD, SHOT, WINDOW};
+use crate::lengths::{Lengths, HELD, SHOT, WINDOW};
 use crate::report::half;
 use crate::reports::{self, Reports};
 use judge::compared::Compared;
@@ -16,6 +16,13 @@ use rack::raw::{answer, phase, Reply, State};
 const ROWS: usize = 1024;
 const LIT: u8 = 1;
 const UNREAD: u8 = 2;
+
+/// Where `ends` has a qubit's elements: how many rows are on it, up to one more than have a place, then these rows.
+fn slot(qubit: usize) -> usize {
+    ROWS + (PLACES + 1) * qubit
+}
+
+const PLACES: usize = 14;
 
 /// A decode that is carried out, and the reports of its halves.
 pub type Decoded = (Decode, [Report; 2]);
@@ -128,14 +135,38 @@ impl Mirror {
         shot
     }
 
-    /// The row after those before it.
+    /// The row after those before it, and among the rows on each of its qubits. The first row finds
+    /// none on any qubit.
     fn row(&mut self, qubits: &[u8]) {
-        let at = 2 * usize::from(self.code.rows);
-        let ends = &mut self.held[ENDS];
-        let start = if at == 0 { 0 } else { u16::from_le_bytes([ends[at - 2], ends[at - 1]]) };
+        let State { n, rows, .. } = self.code;
+        let [flat, ends, ..] = &mut self.held;
+        let start = if rows == 0 { 0 } else { element(ends, usize::from(rows) - 1) };
         let end = start + qubits.len() as u16 / 2;
-        ends[at..at + 2].copy_from_slice(&end.to_le_bytes());
-        self.held[FLAT][2 * usize::from(start)..2 * usize::from(end)].copy_from_slice(qubits);
+        put(ends, rows.into(), end);
+        flat[2 * usize::from(start)..2 * usize::from(end)].copy_from_slice(qubits);
+        if rows == 0 {
+            (0..n.into()).for_each(|qubit| put(ends, slot(qubit), 0));
+        }
+        for at in 0..qubits.len() / 2 {
+            note(ends, element(qubits, at).into(), rows);
+        }
         self.code.rows += 1;
     }
+}
+
+/// A row among the rows on a qubit, if it has a place; one more than have a place stands for any more.
+fn note(ends: &mut [u8], qubit: usize, row: u16) {
+    let number = usize::from(element(ends, slot(qubit)));
+    if number < PLACES {
+        put(ends, slot(qubit) + 1 + number, row);
+    }
+    put(ends, slot(qubit), (number.min(PLACES) + 1) as u16);
+}
+
+fn element(list: &[u8], at: usize) -> u16 {
+    u16::from_le_bytes([list[2 * at], list[2 * at + 1]])
+}
+
+fn put(list: &mut [u8], at: usize, number: u16) {
+    list[2 * at..][..2].copy_from_slice(&number.to_le_bytes());
 }

@@ -148,7 +148,7 @@ fn judge(header: &Numbers) -> Judged {
     let most = [QUBITS, ROWS, WEIGHT, budget, limit, MOST_LIVE];
     let marks = [judged::NOT_LOST, judged::FIXED, judged::PEELED, judged::GUESSED, judged::OPEN];
     let kinds = [1, 2, 3, 4, 5, 6, 7, LOGICAL, X_ROW, Z_ROW];
-    let lists = [16_384, 1_024, 2_048, 2_560, 10_240, QUBITS, WORDS * QUBITS, QUBITS];
+    let lists = [16_384, 16_384, 2_048, 2_560, 10_240, QUBITS, WORDS * QUBITS, QUBITS];
     for (prefix, known) in [
         ("MOST_", most.to_vec()),
         ("MARK_", marks.map(usize::from).to_vec()),

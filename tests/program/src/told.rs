@@ -262,7 +262,7 @@ fn help(setup: &Setup) -> Checked {
 
 fn version(setup: &Setup) -> Checked {
     let actual = argument(setup, &["--version"])?;
-    same("standard output", &actual.0, "shots 7\n")?;
+    same("standard output", &actual.0, "shots 8\n")?;
     same("standard error", &actual.1, "")
 }
 

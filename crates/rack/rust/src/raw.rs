@@ -1,7 +1,7 @@
 //! What `include/rack.h` declares, number for number.
 
 /// The version of records, lists and structs.
-pub const VERSION: u16 = 7;
+pub const VERSION: u16 = 8;
 
 /// The kind of a record, its first byte. A row's is this and as many more as it has qubits.
 pub mod kind {
@@ -32,7 +32,7 @@ pub mod most {
 /// code has qubits, forms four times as many, at a decode only: these are enough for every code.
 pub mod least {
     pub const FLAT: usize = 16384;
-    pub const ENDS: usize = 1024;
+    pub const ENDS: usize = 16384;
     pub const SHOT: usize = 2048;
     pub const WINDOW: usize = 2560;
     pub const WORK: usize = 10240;
