@@ -155,10 +155,10 @@ module _ (n : ℕ) (c : RowLists) (lost : List ℕ) (other others limit : ℕ) (
       h = halfIn n c lost other others
 
       ran : RowsObey n c other others → Ran n c mid r (tried h limit)
-      ran obey = subst (Ran n c mid r) (sym (tried-is n c lost other others limit)) (try .over (c .flat) (obey .own) r told .1)
+      ran obey = subst (Ran n c mid r) (sym (tried-is n c lost other others limit)) (try .tells (c .flat) (obey .own) .over r told .1)
 
       over : RowsObey n c other others → finished? (tried h limit .word) ≡ true
-      over obey = ap finished? (sym (ap (λ (x : HalfReport). x .word) (ran obey .report)) ∙ try .over (c .flat) (obey .own) r told .0)
+      over obey = ap finished? (sym (ap (λ (x : HalfReport). x .word) (ran obey .report)) ∙ try .tells (c .flat) (obey .own) .over r told .0)
 
   -- Else it is started anew.
   pub half-again : (budget : ℕ) (work₂ marks₂ : List ℕ) (new : Working) (b : RunAnswer) → Starts n c lost other others (mid .work) work₂ (mid .marks) marks₂

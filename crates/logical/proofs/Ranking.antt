@@ -1,14 +1,14 @@
 -- The rank of rows, by the search with every column lost. Assumes nothing.
 use mathlib.Core.Path.{_≡_, refl, sym, ap, _∙_, fun-ext}
-use mathlib.Core.Bool.{Bool, true, false, _&&_}
+use mathlib.Core.Bool.{Bool, true, false}
 use mathlib.Core.Logic.{⊎-elim}
 use mathlib.Core.List.{List}
 use Prim.Native.Nat.{ℕ, zero, suc, _+_, _≤_, _<_}
 use native.Mathlib.Omega.{arith}
-use borrow.Author.Tests.{lt-ltb, le-ltb, le-leb, eq-eqb}
-use lib.Dec.{eqb, ltb}
+use borrow.Author.Tests.{lt-ltb, le-ltb, le-leb}
+use lib.Dec.{ltb}
 use lib.ListN.{length, getD}
-use Rattle.binary.specs.Meaning.{Qubits, Row, Below}
+use Rattle.binary.specs.Meaning.{Qubits, Row}
 use Rattle.binary.specs.Rank.{rank}
 use Rattle.binary.specs.Words.{listed}
 use Rattle.binary.proofs.WordBits.{order}
@@ -23,7 +23,7 @@ use Rattle.search.specs.Marked.{enough, columnsOf, Marked}
 use Rattle.search.specs.Ranks.{ClearedRank}
 use Rattle.search.proofs.Ranks.{cleared-rank}
 use Rattle.records.specs.declared.Sizes.{Sizes}
-use Rattle.logical.specs.Logical.{Few, RankOf, RanksOf}
+use Rattle.logical.specs.Logical.{RankOf, RanksOf}
 
 columns-count : (work : List ℕ) (k : ℕ) → length (columnsOf work k) ≡ k
 columns-count work zero = refl

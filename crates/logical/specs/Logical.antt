@@ -7,7 +7,7 @@ use mathlib.Core.Path.{_≡_}
 use mathlib.Core.Bool.{Bool, cond}
 use mathlib.Core.List.{List}
 use Prim.Native.Nat.{ℕ, _+_, _≤_}
-use Rattle.binary.specs.Meaning.{Row, Below}
+use Rattle.binary.specs.Meaning.{Below}
 use Rattle.binary.specs.Rank.{rank}
 use Rattle.code.specs.Lists.{rowsFrom}
 use Rattle.records.specs.declared.Sizes.{Sizes}

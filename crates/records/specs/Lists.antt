@@ -59,7 +59,7 @@ lentOf lists window work six = record { lists = lists; window = window; work = w
 
 -- 512 + 512 rows of up to 16 qubits; their ends, and 15 elements for the rows on each of 1,024 qubits; 1,024 qubits and as many rows; ten numbers for each of 256 reports. The first 8,192 elements of the work list are 512 packed rows of 16 words,
 -- afterwards 8 words for the rows on each of 1,024 qubits; behind them are the dangling rows of a half, how many they are, of each of 512 rows the number
--- of its open qubits, and the number of rows on each qubit (docs/LISTS.md).
+-- of its open qubits, and 1,024 elements for what a half keeps besides: sums and parities of the rows, or a copy, or weights (docs/LISTS.md).
 unfoldable pub shortLists : Lists → ℕ → ℕ → Bool
 shortLists l window work =
     ltb (length (l .flat)) 16384 || ltb (length (l .ends)) 16384 || ltb (length (l .shot)) 2048 || ltb window 2560 || ltb work 10240

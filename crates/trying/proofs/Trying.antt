@@ -147,9 +147,8 @@ module _ (n : ℕ) (ends lost lit : List ℕ) (first count limit : ℕ) (old : W
   tries-refused = record {
     stays = stays-same n old;
     refused = λ i. (refl, refl);
-    over = λ flat good. unknown-tells n (rowsIn flat ends first count lit) old (triedBy n (rowsIn flat ends first count lit) lost limit) .over;
-    left = λ flat good. unknown-tells n (rowsIn flat ends first count lit) old (triedBy n (rowsIn flat ends first count lit) lost limit) .left;
+    tells = λ flat good. unknown-tells n (rowsIn flat ends first count lit) old (triedBy n (rowsIn flat ends first count lit) lost limit);
   }
 
   pub tries-made : fitting ≡ true → (new : Working) (r : TryAnswer) → Tried n ends lost lit first count limit old new r → Tries n ends lost lit first count limit old new r
-  tries-made t new r v = record { stays = v .stays; refused = λ i. never t i; over = λ flat good. v .tells flat good .over; left = λ flat good. v .tells flat good .left }
+  tries-made t new r v = record { stays = v .stays; refused = λ i. never t i; tells = v .tells }

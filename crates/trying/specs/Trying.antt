@@ -9,14 +9,11 @@ use Prim.Native.Nat.{ℕ, suc, _+_, _*_}
 use lib.Dec.{leb}
 use lib.ListN.{length}
 use Rattle.binary.specs.Words.{listed}
-use Rattle.machine.specs.declared.Word.the-variants.{Certain, Spent}
-use Rattle.machine.specs.declared.HalfReport.{HalfReport}
 use Rattle.machine.specs.Machine.{End, start, freest, run}
 use Rattle.scans.specs.Rows.{RowLists, rowsIn, rowChecks, GoodRows}
 use Rattle.turns.specs.Turns.{Working, Stays}
-use Rattle.turns.specs.Runs.{Ran}
 use Rattle.trying.specs.declared.TryAnswer.{TryAnswer}
-use Rattle.trying.specs.declared.TryAnswer.the-variants.{Unknown, Left, Over}
+use Rattle.trying.specs.declared.TryAnswer.the-variants.{Unknown}
 use Rattle.trying.specs.Turns.{Tells}
 
 unfoldable pub triedBy : ℕ → RowLists → List ℕ → ℕ → End
@@ -37,6 +34,4 @@ pub record Tried (n : ℕ) (ends lost lit : List ℕ) (first count limit : ℕ) 
 pub record Tries (n : ℕ) (ends lost lit : List ℕ) (first count limit : ℕ) (old new : Working) (r : TryAnswer) : Type 0 where
   pub stays : Stays n old new
   pub refused : fits? n (length lost) (length lit) first count (length (old .work)) (length (old .marks)) (length (old .forms)) ≡ false → (r ≡ Unknown) × (new ≡ old)
-  pub over : (flat : List ℕ) → let c = rowsIn flat ends first count lit in GoodRows n c
-      → (e : HalfReport) → r ≡ Over e → (e .word ≡ Certain) × Ran n c new e (triedBy n c lost limit)
-  pub left : (flat : List ℕ) → let c = rowsIn flat ends first count lit in GoodRows n c → r ≡ Left → triedBy n c lost limit .word ≡ Spent
+  pub tells : (flat : List ℕ) → let c = rowsIn flat ends first count lit in GoodRows n c → Tells n c new r (triedBy n c lost limit)
