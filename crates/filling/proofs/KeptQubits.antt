@@ -11,7 +11,7 @@ use lib.ListN.{length, getD, take, drop, drop-of-length-le}
 use lib.Seq.{drop-cons}
 use borrow.Author.Tests.{eq-eqb, ne-eqb, eqb-true, eqb-false}
 use Rattle.binary.specs.Meaning.{Qubits, Row, has}
-use Rattle.binary.proofs.Bits.{bit, never, or-right, tally-none}
+use Rattle.binary.proofs.Bits.{bit, never, or-right}
 use Rattle.binary.proofs.WordBits.{order}
 use Rattle.lists.specs.Cleared.{Cleared}
 use Rattle.bitsets.specs.Bitsets.{inSet, Flipped}
@@ -21,12 +21,12 @@ use Rattle.incidence.specs.Incidence.{slot, numberOn, rowsOn}
 use Rattle.machine.specs.Machine.{isOpen, put, part}
 use Rattle.machine.specs.Lists.{view}
 use Rattle.scans.specs.Rows.{RowLists, rowsIn, read?, GoodRows}
-use Rattle.scans.proofs.Scanning.{open-past, open-read}
-use Rattle.kept.specs.Kept.{rowIn, dangles?, Raised}
-use Rattle.kept.proofs.Same.{set-same, set-none, kept-same}
+use Rattle.scans.proofs.Scanning.{open-below, open-past, open-read}
+use Rattle.kept.specs.Kept.{rowIn, Raised, Finds}
+use Rattle.kept.proofs.Same.{set-same, set-none, kept-by, rows-same}
 use Rattle.kept.proofs.Raising.{Raising, raising-start, raising-pass, raising-row, raising-end}
 use Rattle.filling.proofs.OpenBelow.{part-none, openBelow, below-none, below-own, below-inside, below-pass, below-put, below-all}
-use Rattle.filling.specs.Filling.{ReadAs, RowPut, KeptWith, RowsPut, QubitKept, QubitsKept}
+use Rattle.filling.specs.Filling.{ReadAs, RowPut, CountedWith, RowsPut, QubitKept, QubitsKept}
 
 ----------------------------------------------------------------------
 -- A row on a qubit
@@ -77,13 +77,13 @@ pub record Given (n q : ℕ) (on : List ℕ) (c : RowLists) (o : Qubits) (work�
   pub rows-on : on ≡ rowsOn (c .ends) q
   pub inside : (p : ℕ) → o p ≡ true → p < n
   pub shut : o q ≡ false
-  pub kept : KeptWith o c work₀
+  pub counted : CountedWith o c work₀
   pub empty : (j : ℕ) → j < c .count → inSet work₀ q j ≡ false
 
 -- Where the qubit's set was emptied.
 given : (n q : ℕ) (on : List ℕ) (c : RowLists) (o : Qubits) (old work₀ : List ℕ) → c .count ≤ 512 → n ≤ 1024 → q < n → GoodRows n c → numberOn (c .ends) q ≤ 14 → on ≡ rowsOn (c .ends) q
-    → ((p : ℕ) → o p ≡ true → p < n) → o q ≡ false → KeptWith o c old → Cleared (8 * q) (8 * q + 8) old work₀ → Given n q on c o work₀
-given n q on c o old work₀ few size small good listed rows-on inside shut kept v =
+    → ((p : ℕ) → o p ≡ true → p < n) → o q ≡ false → CountedWith o c old → Cleared (8 * q) (8 * q + 8) old work₀ → Given n q on c o work₀
+given n q on c o old work₀ few size small good listed rows-on inside shut counted v =
     record {
       size = size;
       small = small;
@@ -92,9 +92,9 @@ given n q on c o old work₀ few size small good listed rows-on inside shut kept
       rows-on = rows-on;
       inside = inside;
       shut = shut;
-      kept = (
-        kept-same o c old work₀ few (λ j h. v .outside (8192 + j) (inr (omega arith))) (λ j h. v .outside (8704 + j) (inr (omega arith))) (kept .0),
-        record { on = λ p j t h. set-same old work₀ p j (v .outside (8 * p + j / 64) (beside p j t (omega arith))) ∙ kept .1 .on p j t h },
+      counted = (
+        (λ j h. v .outside (8704 + j) (inr (omega arith)) ∙ counted .0 j h),
+        record { on = λ p j t h. set-same old work₀ p j (v .outside (8 * p + j / 64) (beside p j t (omega arith))) ∙ counted .1 .on p j t h },
       );
       empty = λ j h. set-none work₀ q j (v .inside (8 * q + j / 64) (omega arith) (omega arith));
     }
@@ -131,7 +131,7 @@ module _ (q : ℕ) (on : List ℕ) (first count : ℕ) (lit work₀ : List ℕ) 
 
     raising-begun : Raising (rows flat ends) q o (later on) work₀
     raising-begun =
-        raising-start n (rows flat ends) q o (g .size) few (g .good .ascending) on-inside (g .shut) (later on) work₀ (g .kept .0) (g .kept .1) (g .empty) are
+        raising-start n (rows flat ends) q o (g .size) few (g .good .ascending) on-inside (g .shut) (later on) work₀ (g .counted .0) (g .counted .1) (g .empty) are
 
   pub putting-start : Putting q on first count lit work₀ 0 work₀
   putting-start = record { long = refl; so = λ n flat ends o g. (distinct n flat ends o g, raising-begun n flat ends o g) }
@@ -185,8 +185,8 @@ module _ (q : ℕ) (on : List ℕ) (first count : ℕ) (lit work₀ : List ℕ) 
     putting-end l old v =
         record {
           long = s .long ∙ v .long;
-          opens = λ flat ends listed same n size small good o inside shut kept.
-              let g = given n q on (rows flat ends) o old work₀ few size small good listed same inside shut kept v in
+          opens = λ flat ends listed same n size small good o inside shut counted.
+              let g = given n q on (rows flat ends) o old work₀ few size small good listed same inside shut counted v in
               raising-end n (rows flat ends) q o size few (good .ascending) (on-inside n flat ends o g) shut (later (drop k on)) work (s .so n flat ends o g .1)
               (λ j h. rw (drop-of-length-le on l));
         }
@@ -213,7 +213,7 @@ qubits-not n ends first count lit marks old new e = record { long = e; kept = λ
 -- With the open qubits below q.
 pub record Reached (n : ℕ) (ends : List ℕ) (first count : ℕ) (lit marks work₀ : List ℕ) (q : ℕ) (work : List ℕ) : Type 0 where
   pub long : length work ≡ length work₀
-  pub so : (flat : List ℕ) → let c = rowsIn flat ends first count lit in GoodRows n c → KeptWith (openBelow (isOpen (view n marks)) q) c work
+  pub so : (flat : List ℕ) → let c = rowsIn flat ends first count lit in GoodRows n c → CountedWith (openBelow (isOpen (view n marks)) q) c work
 
 module _ (n : ℕ) (ends : List ℕ) (first count : ℕ) (lit marks work₀ : List ℕ) (size : n ≤ 1024) (few : count ≤ 512) where
   abbrev o : Qubits
@@ -223,25 +223,19 @@ module _ (n : ℕ) (ends : List ℕ) (first count : ℕ) (lit marks work₀ : Li
   none-yet r = ap (λ (s : Qubits). part s r) (below-none o) ∙ part-none r
 
   -- No qubit is open yet.
-  pub reached-none : (old mid : List ℕ) → Cleared 8192 8201 old mid → Cleared 8704 (8704 + count) mid work₀ → Reached n ends first count lit marks work₀ 0 work₀
-  reached-none old mid v w =
+  pub reached-none : (old : List ℕ) → Cleared 8704 (8704 + count) old work₀ → Reached n ends first count lit marks work₀ 0 work₀
+  reached-none old v =
       record {
         long = refl;
-        so = λ flat good.
-            let c = rowsIn flat ends first count lit in
-            let not-one : (i : ℕ) → dangles? (openBelow o 0) c i ≡ false = λ i. ap (λ (l : List ℕ). eqb (length l) 1) (none-yet (rowIn c i)) in (
-              record {
-                counts = λ i h. w .inside (8704 + i) (omega arith) (omega arith) ∙ sym (ap length (none-yet (rowIn c i)));
-                dangling = λ i h. set-none work₀ 1024 i (w .outside (8 * 1024 + i / 64) (inl (omega arith)) ∙ v .inside (8 * 1024 + i / 64) (omega arith) (omega arith)) ∙ sym (not-one i);
-                total = w .outside 8200 (inl (omega arith)) ∙ v .inside 8200 (omega arith) (omega arith) ∙ sym (tally-none count (dangles? (openBelow o 0) c) not-one);
-              },
-              record { on = λ p i t h. never t (ap (λ (s : Qubits). s p) (below-none o)) },
-            );
+        so = λ flat good. (
+          (λ i h. v .inside (8704 + i) (omega arith) (omega arith) ∙ sym (ap length (none-yet (rowIn (rowsIn flat ends first count lit) i)))),
+          record { on = λ p i t h. never t (ap (λ (s : Qubits). s p) (below-none o)) },
+        );
       }
 
   module _ (q : ℕ) (work : List ℕ) (s : Reached n ends first count lit marks work₀ q work) where
     pub reached-shut : q < n → (getD marks q 0 ≡ 4 → ⊥) → Reached n ends first count lit marks work₀ (q + 1) work
-    reached-shut h mark = record { long = s .long; so = λ flat good. subst (λ (x : Qubits). KeptWith x (rowsIn flat ends first count lit) work) (below-pass o q e) (s .so flat good) }
+    reached-shut h mark = record { long = s .long; so = λ flat good. subst (λ (x : Qubits). CountedWith x (rowsIn flat ends first count lit) work) (below-pass o q e) (s .so flat good) }
       where
         e : o q ≡ false
         e = sym (open-read n marks q h) ∙ ne-eqb (getD marks q 0) 4 mark
@@ -252,17 +246,21 @@ module _ (n : ℕ) (ends : List ℕ) (first count : ℕ) (lit marks work₀ : Li
         record {
           long = v .long ∙ s .long;
           so = λ flat good.
-              subst (λ (x : Qubits). KeptWith x (rowsIn flat ends first count lit) work′) (below-put o q e)
+              subst (λ (x : Qubits). CountedWith x (rowsIn flat ends first count lit) work′) (below-put o q e)
               (v .opens is-told flat n size h good (openBelow o q) (below-inside o q n (omega arith)) (below-own o q) (s .so flat good));
         }
       where
         e : o q ≡ true
         e = sym (open-read n marks q h) ∙ eq-eqb (getD marks q 0) 4 mark
 
-    pub reached-all : n ≤ q → (old : List ℕ) → length work₀ ≡ length old → QubitsKept n ends first count lit marks old work true
-    reached-all h old e =
+    pub reached-all : n ≤ q → (old new : List ℕ) → 9216 ≤ length old → length work₀ ≡ length old → Finds count work new → QubitsKept n ends first count lit marks old new true
+    reached-all h old new room e v =
         record {
-          long = s .long ∙ e;
+          long = v .long ∙ s .long ∙ e;
           kept = λ t flat good.
-              subst (λ (x : Qubits). KeptWith x (rowsIn flat ends first count lit) work) (below-all o q (λ p l. sym (open-past n marks p (omega arith)))) (s .so flat good);
+              let c = rowsIn flat ends first count lit in
+              let all = subst (λ (x : Qubits). CountedWith x c work) (below-all o q (λ p l. sym (open-past n marks p (omega arith)))) (s .so flat good) in (
+                kept-by o c new (λ i l. v .beyond (8704 + i) (omega arith) ∙ all .0 i l) (v .tallied (omega (arith, s .long)) few),
+                rows-same n o o c work new few (v .below) (λ p t. let l = open-below n marks p t in (t, omega arith)) (all .1),
+              );
         }

@@ -3,7 +3,7 @@
 --   RowAdded  a row is on each of its open qubits
 --   KeptTo    the first rows are kept
 --   RowPut    a row is on a qubit, and has an open qubit more; ReadAs: it is one of the half's that was read
---   Opens     a qubit becomes open: everything kept of the rows has it
+--   Opens     a qubit becomes open: the numbers of the rows, and the rows on each qubit, have it
 --   RowsPut   the same, from the rows on the qubit; QubitKept: from the list of the rows on each qubit; QubitsKept: of all open qubits
 --   Fills     everything kept of the rows, from the marks
 use mathlib.Core.Path.{_≡_}
@@ -20,7 +20,7 @@ use Rattle.incidence.specs.Incidence.{numberOn, rowsOn}
 use Rattle.machine.specs.Machine.{isOpen, part, put}
 use Rattle.machine.specs.Lists.{view}
 use Rattle.scans.specs.Rows.{RowLists, rowsIn, read?, GoodRows}
-use Rattle.kept.specs.Kept.{rowIn, openIn, Kept, RowsOn, Tallied, Raised}
+use Rattle.kept.specs.Kept.{rowIn, openIn, Counted, Kept, RowsOn, Tallied, Raised}
 
 -- The sets of the open qubits and of the dangling rows are empty.
 pub record Emptied (n : ℕ) (marks old new : List ℕ) : Type 0 where
@@ -56,13 +56,13 @@ pub record RowPut (q r first count : ℕ) (lit old new : List ℕ) : Type 0 wher
   pub puts : (i : ℕ) → ReadAs first count lit r i → (mid : List ℕ) × Flipped q i old mid × Raised i mid new
   pub passes : ((i : ℕ) → ReadAs first count lit r i → ⊥) → new ≡ old
 
-abbrev pub KeptWith : Qubits → RowLists → List ℕ → Type 0
-KeptWith o c work = Kept o c work × RowsOn o c work
+abbrev pub CountedWith : Qubits → RowLists → List ℕ → Type 0
+CountedWith o c work = Counted o c work × RowsOn o c work
 
 -- Of rows without repeats; the qubits o were open before.
 abbrev pub Opens : ℕ → RowLists → List ℕ → List ℕ → Type 0
 Opens q c old new =
-    (n : ℕ) → n ≤ 1024 → q < n → GoodRows n c → (o : Qubits) → ((p : ℕ) → o p ≡ true → p < n) → o q ≡ false → KeptWith o c old → KeptWith (put q true o) c new
+    (n : ℕ) → n ≤ 1024 → q < n → GoodRows n c → (o : Qubits) → ((p : ℕ) → o p ≡ true → p < n) → o q ≡ false → CountedWith o c old → CountedWith (put q true o) c new
 
 pub record RowsPut (q : ℕ) (on : List ℕ) (first count : ℕ) (lit old new : List ℕ) : Type 0 where
   pub long : length new ≡ length old
@@ -75,7 +75,7 @@ pub record QubitKept (q : ℕ) (ends : List ℕ) (first count : ℕ) (lit old ne
 
 pub record QubitsKept (n : ℕ) (ends : List ℕ) (first count : ℕ) (lit marks old new : List ℕ) (told : Bool) : Type 0 where
   pub long : length new ≡ length old
-  pub kept : told ≡ true → (flat : List ℕ) → GoodRows n (rowsIn flat ends first count lit) → KeptWith (isOpen (view n marks)) (rowsIn flat ends first count lit) new
+  pub kept : told ≡ true → (flat : List ℕ) → let c = rowsIn flat ends first count lit in GoodRows n c → Kept (isOpen (view n marks)) c new × RowsOn (isOpen (view n marks)) c new
 
 unfoldable pub fits? : ℕ → RowLists → ℕ → Bool
 fits? n c work =

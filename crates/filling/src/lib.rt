@@ -161,7 +161,6 @@ fn by_qubits(n: usize, ends: &[u16], lit: &[u8], rows: Rows, marks: &[u8], work:
     if marks.len() < n {
         return false;
     }
-    lists::clear_words(work, kept::FIRST, 8201);
     lists::clear_words(work, kept::NUMBERS, kept::NUMBERS + rows.count as usize);
     let mut q: usize = 0;
     while q < n {
@@ -172,6 +171,7 @@ fn by_qubits(n: usize, ends: &[u16], lit: &[u8], rows: Rows, marks: &[u8], work:
         }
         q += 1;
     }
+    kept::find_dangling(rows.count, work);
     true
 }
 

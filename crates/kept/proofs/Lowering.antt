@@ -17,7 +17,7 @@ use Rattle.code.proofs.Order.{Distinct, ascending-distinct}
 use Rattle.machine.specs.Machine.{put, part, empty?}
 use Rattle.scans.specs.Rows.{RowLists, GoodRows}
 use Rattle.scans.proofs.Checks.{here, was-read}
-use Rattle.kept.specs.Kept.{rowIn, openIn, Kept, RowsOn, Tallied, Numbered, Lowered, LoweredRows}
+use Rattle.kept.specs.Kept.{rowIn, openIn, Kept, RowsOn, Tallied, Numbered, Retallied, Lowered, LoweredRows}
 use Rattle.kept.proofs.Same.{row-of, set-same, kept-by, tallied-by}
 
 ----------------------------------------------------------------------
@@ -124,7 +124,7 @@ module _ (n : ℕ) (c : RowLists) (p : ℕ) (o : Qubits) (work₀ : List ℕ) (s
     was-open : getD work (8704 + i) 0 ≡ suc (length (part o′ (here c i .row)))
     was-open = s .counts i h ∙ up-from (openIn o′ c) (openIn o c) i i (omega arith) ∙ rw row-is (one-less o p (here c i .row) (own i h) (g .open-p) (on-it .1))
 
-    lowered : (number + 1 ≡ getD work (8704 + i) 0) × Numbered i number work work′
+    lowered : (number + 1 ≡ getD work (8704 + i) 0) × Numbered i number work work′ × Retallied i work work′
     lowered = low .lowered long (omega arith) (let z = was-open in omega arith)
 
     pub number-is : number ≡ length (part o′ (here c i .row))
@@ -134,11 +134,11 @@ module _ (n : ℕ) (c : RowLists) (p : ℕ) (o : Qubits) (work₀ : List ℕ) (s
     rows-on k l = low .below k l ∙ same k l
 
     pub lowering-row : Lowering c p o (i + 1) work′
-    lowering-row = record { counts = counts-on; tallied = lowered .1 .tallied (c .count) few h (s .tallied) }
+    lowering-row = record { counts = counts-on; tallied = lowered .2 (c .count) few h (s .tallied) }
       where
         counts-on : (j : ℕ) → j < c .count → getD work′ (8704 + j) 0 ≡ upTo (i + 1) (openIn o′ c) (openIn o c) j
         counts-on j l =
-            lowered .1 .counts j (omega arith) ∙ bit (eqb i j)
+            lowered .1 j (omega arith) ∙ bit (eqb i j)
             (λ e. let d = eqb-true i j e in rw (e, ← d) (number-is ∙ ap (λ (r : Row). length (part o′ r)) (sym row-is) ∙ sym (up-below (openIn o′ c) (openIn o c) (i + 1) i (omega arith))))
             (λ e. rw e (s .counts j l ∙ sym (up-on (openIn o′ c) (openIn o c) i j e)))
 

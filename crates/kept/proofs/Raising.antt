@@ -2,7 +2,7 @@
 use mathlib.Core.Path.{_≡_, refl, sym, ap, _∙_, subst, fun-ext}
 use mathlib.Core.Bool.{Bool, true, false, _&&_, cond}
 use mathlib.Core.List.{List, [], _∷_}
-use Prim.Native.Nat.{ℕ, suc, _+_, _-_, _*_, _/_, _≤_, _<_}
+use Prim.Native.Nat.{ℕ, suc, _+_, _-_, _*_, _/_, _%_, _≤_, _<_}
 use native.Mathlib.Omega.{arith}
 use lib.Dec.{eqb, ltb, leb}
 use lib.ListN.{length, getD}
@@ -17,8 +17,8 @@ use Rattle.code.proofs.Order.{Distinct, ascending-distinct}
 use Rattle.machine.specs.Machine.{put, part}
 use Rattle.scans.specs.Rows.{RowLists}
 use Rattle.scans.proofs.Checks.{here, was-read}
-use Rattle.kept.specs.Kept.{rowIn, openIn, Kept, RowsOn, Tallied, Numbered, Raised}
-use Rattle.kept.proofs.Same.{row-of, set-same, kept-by, tallied-by, tallied-same}
+use Rattle.kept.specs.Kept.{rowIn, openIn, Counted, RowsOn, Numbered, Raised}
+use Rattle.kept.proofs.Same.{row-of, set-same}
 use Rattle.kept.proofs.Lowering.{not-has, summed, length-summed, summed-less}
 
 ----------------------------------------------------------------------
@@ -61,7 +61,6 @@ open-few n o r t = omega (arith, part-few o r, ascending-few n 0 r t)
 -- With the qubits o open before; of the rows on qubit q those that are later are not raised yet.
 pub record Raising (c : RowLists) (q : ℕ) (o : Qubits) (later : ℕ → Bool) (work : List ℕ) : Type 0 where
   pub counts : (j : ℕ) → j < c .count → getD work (8704 + j) 0 ≡ cond (later j) (openIn o c j) (openIn (put q true o) c j)
-  pub tallied : Tallied (c .count) work
   pub on : (p j : ℕ) → put q true o p ≡ true → j < c .count → inSet work p j ≡ cond (eqb q p && later j) false (has (rowIn c j) p)
 
 module _ (n : ℕ) (c : RowLists) (q : ℕ) (o : Qubits) (size : n ≤ 1024) (few : c .count ≤ 512) (good : All (Ascending n) (rowsFrom (c .flat) (c .ends) (c .first) (c .count)))
@@ -77,12 +76,11 @@ module _ (n : ℕ) (c : RowLists) (q : ℕ) (o : Qubits) (size : n ≤ 1024) (fe
   not-on false r e = refl
 
   -- No row is raised yet, and none is on the qubit.
-  pub raising-start : (later : ℕ → Bool) (work : List ℕ) → Kept o c work → RowsOn o c work → ((j : ℕ) → j < c .count → inSet work q j ≡ false)
+  pub raising-start : (later : ℕ → Bool) (work : List ℕ) → Counted o c work → RowsOn o c work → ((j : ℕ) → j < c .count → inSet work q j ≡ false)
       → ((j : ℕ) → j < c .count → later j ≡ has (here c j .row) q) → Raising c q o later work
   raising-start later work k r none-on are =
       record {
-        counts = λ j h. k .counts j h ∙ bit (later j) (λ e. rw e) (λ e. rw e (sym (ap length (same-open o q (rowIn c j) shut (off j h e)))));
-        tallied = tallied-by o c work k;
+        counts = λ j h. k j h ∙ bit (later j) (λ e. rw e) (λ e. rw e (sym (ap length (same-open o q (rowIn c j) shut (off j h e)))));
         on = λ p j t h. bit (eqb q p) (λ e. rw e (own-set p j h (eqb-true q p e))) (λ e. rw e (r .on p j (rw e at t) h));
       }
     where
@@ -100,7 +98,6 @@ module _ (n : ℕ) (c : RowLists) (q : ℕ) (o : Qubits) (size : n ≤ 1024) (fe
     raising-pass later′ same =
         record {
           counts = λ j h. s .counts j h ∙ bit (was-read c j) (λ e. rw (same j h e)) (λ e. rw e (either (later j) 0 ∙ sym (either (later′ j) 0)));
-          tallied = s .tallied;
           on = λ p j t h. s .on p j t h
               ∙ bit (was-read c j) (λ e. rw (same j h e)) (λ e. rw e (either (eqb q p && later j) false ∙ sym (either (eqb q p && later′ j) false)));
         }
@@ -109,9 +106,9 @@ module _ (n : ℕ) (c : RowLists) (q : ℕ) (o : Qubits) (size : n ≤ 1024) (fe
         either true x = refl
         either false x = refl
 
-    pub raising-end : ((j : ℕ) → j < c .count → later j ≡ false) → Kept o′ c work × RowsOn o′ c work
+    pub raising-end : ((j : ℕ) → j < c .count → later j ≡ false) → Counted o′ c work × RowsOn o′ c work
     raising-end none-later = (
-      kept-by o′ c work (λ j h. s .counts j h ∙ rw (none-later j h)) (s .tallied),
+      (λ j h. s .counts j h ∙ rw (none-later j h)),
       record { on = λ p j t h. s .on p j t h ∙ rw (none-later j h, no-more (eqb q p)) },
     )
       where
@@ -134,10 +131,8 @@ module _ (n : ℕ) (c : RowLists) (q : ℕ) (o : Qubits) (size : n ≤ 1024) (fe
       more-open : length (part o′ (here c i .row)) ≡ suc (length (part o (here c i .row)))
       more-open = one-more o q (here c i .row) (ascending-distinct n (here c i .row) (own i h)) shut on-it
 
-      raised : Numbered i (getD mid (8704 + i) 0 + 1) mid work′
-      raised =
-          raise .raised (omega (arith, flip .long)) (omega arith)
-          (omega (arith, was-open, more-open, open-few n o′ (here c i .row) (own i h)))
+      raised : Numbered i (getD mid (8704 + i) 0 % 1024 + 1) mid work′
+      raised = raise .raised (omega (arith, flip .long)) (omega arith)
 
       sets-mid : (p j : ℕ) → j < 512 → inSet mid p j ≡ inSet work p j ⊕ (eqb p q && eqb j i)
       sets-mid p j l = flip .flipped (omega arith) (let b = q-below in omega arith) p j l
@@ -145,18 +140,12 @@ module _ (n : ℕ) (c : RowLists) (q : ℕ) (o : Qubits) (size : n ≤ 1024) (fe
       sets-raised : (p j : ℕ) → p < 1024 → j < 512 → inSet work′ p j ≡ inSet mid p j
       sets-raised p j b l = set-same mid work′ p j (raise .below (8 * p + j / 64) (omega arith))
 
-      tallied-mid : Tallied (c .count) mid
-      tallied-mid =
-          let b = q-below in
-          tallied-same (c .count) work mid few (λ j l. flip .beyond (8192 + j) (omega arith)) (λ j l. flip .beyond (8704 + j) (omega arith)) (s .tallied)
-
       pub raising-row : (later′ : ℕ → Bool) → later′ i ≡ false → ((j : ℕ) → eqb i j ≡ false → later′ j ≡ later j) → Raising c q o later′ work′
       raising-row later′ gone same =
           record {
-            counts = λ j l. raised .counts j (omega arith) ∙ bit (eqb i j)
-                (λ e. let d = eqb-true i j e in rw (e, ← d, gone, row-is) (omega (arith, was-open, more-open)))
+            counts = λ j l. raised j (omega arith) ∙ bit (eqb i j)
+                (λ e. let d = eqb-true i j e in rw (e, ← d, gone, row-is) (omega (arith, was-open, more-open, open-few n o′ (here c i .row) (own i h))))
                 (λ e. rw (e, same j e) (flip .beyond (8704 + j) (let b = q-below in omega arith) ∙ s .counts j l));
-            tallied = raised .tallied (c .count) few h tallied-mid;
             on = λ p j t l. sets-raised p j (let b = inside p t in omega arith) (omega arith) ∙ sets-mid p j (omega arith) ∙ ap (λ (x : Bool). x ⊕ (eqb p q && eqb j i)) (s .on p j t l) ∙ turned p j;
           }
         where

@@ -14,7 +14,7 @@ use Rattle.binary.proofs.WordBits.{bit-zero}
 use Rattle.bitsets.specs.Bitsets.{inSet}
 use Rattle.code.specs.Lists.{rowAt, rowsFrom}
 use Rattle.scans.specs.Rows.{RowLists}
-use Rattle.kept.specs.Kept.{openIn, dangles?, Kept, RowsOn, single?, Tallied}
+use Rattle.kept.specs.Kept.{dangles?, Counted, Kept, RowsOn, single?, Tallied}
 
 -- Of rows that are each so, row i is.
 pub row-of : (P : Row → Type 0) (flat ends : List ℕ) (r number i : ℕ) → i < number → All P (rowsFrom flat ends r number) → P (rowAt flat ends (r + i))
@@ -34,7 +34,7 @@ unfolding inSet
 set-none work t j e = ap (λ (x : ℕ). Words.bit x (j % 64)) e ∙ bit-zero (j % 64)
 
 -- Numbers that are a fresh count, and the dangling rows by them.
-pub kept-by : (o : Qubits) (c : RowLists) (work : List ℕ) → ((i : ℕ) → i < c .count → getD work (8704 + i) 0 ≡ openIn o c i) → Tallied (c .count) work → Kept o c work
+pub kept-by : (o : Qubits) (c : RowLists) (work : List ℕ) → Counted o c work → Tallied (c .count) work → Kept o c work
 kept-by o c work counts t =
     record {
       counts = counts;

@@ -2,7 +2,7 @@
 use mathlib.Core.Path.{_≡_, refl, sym, ap, _∙_}
 use mathlib.Core.Bool.{Bool, true, false, not, cond}
 use mathlib.Core.List.{List}
-use Prim.Native.Nat.{ℕ, suc, _+_, _-_, _*_, _/_, _≤_, _<_}
+use Prim.Native.Nat.{ℕ, suc, _+_, _-_, _*_, _/_, _%_, _≤_, _<_}
 use native.Mathlib.Omega.{arith}
 use lib.Dec.{eqb, ltb}
 use lib.ListN.{length, getD, set, length-set}
@@ -12,7 +12,7 @@ use Rattle.binary.specs.Bits.{_⊕_, tally}
 use Rattle.binary.proofs.Bits.{bit, ⊕-false, not-out, below-out, tally-same, tally-few, none-counted}
 use Rattle.binary.proofs.Weights.{tally-up}
 use Rattle.bitsets.specs.Bitsets.{inSet, NextIn, Flipped}
-use Rattle.kept.specs.Kept.{single?, Tallied, Changed, Changes, Numbered, Lowered, Raised, Lowest, dangles?}
+use Rattle.kept.specs.Kept.{single?, Tallied, Changed, Changes, Numbered, Retallied, Lowered, Raised, Lowest, dangles?}
 use Rattle.kept.proofs.Same.{set-same}
 
 ----------------------------------------------------------------------
@@ -65,6 +65,7 @@ pub record Renumbered (i number : ℕ) (old new : List ℕ) : Type 0 where
   pub below : (k : ℕ) → k < 8192 → getD new k 0 ≡ getD old k 0
   pub past : (k : ℕ) → 9216 ≤ k → getD new k 0 ≡ getD old k 0
   pub numbered : Numbered i number old new
+  pub tallied : Retallied i old new
 
 -- Where the row's number is set, and nothing else.
 module _ (i number : ℕ) (old : List ℕ) (few : i < 512) (long : 9216 ≤ length old) where
@@ -91,22 +92,22 @@ module _ (i number : ℕ) (old : List ℕ) (few : i < 512) (long : 9216 ≤ leng
   single-own new c = rw (c i, mid-count i, eq-eqb i i refl)
 
   renumbered : (new : List ℕ) → length new ≡ length old → ((k : ℕ) → k < 8192 → getD new k 0 ≡ getD old k 0) → ((k : ℕ) → 9216 ≤ k → getD new k 0 ≡ getD old k 0) → Counts new
-      → ((n : ℕ) → n ≤ 512 → i < n → Tallied n old → Tallied n new) → Renumbered i number old new
-  renumbered new same below past c t = record { long = same; below = below; past = past; numbered = record { counts = λ j h. c j ∙ mid-count j; tallied = t } }
+      → Retallied i old new → Renumbered i number old new
+  renumbered new same below past c t = record { long = same; below = below; past = past; numbered = λ j h. c j ∙ mid-count j; tallied = t }
 
-  mid-below : (k : ℕ) → k < 8192 → getD mid k 0 ≡ getD old k 0
+  mid-below : (k : ℕ) → k < 8704 → getD mid k 0 ≡ getD old k 0
   mid-below k h = getD-set-other old (8704 + i) k number 0 (λ e. omega arith)
 
   mid-past : (k : ℕ) → 9216 ≤ k → getD mid k 0 ≡ getD old k 0
   mid-past k h = getD-set-other old (8704 + i) k number 0 (λ e. omega arith)
 
   total-mid : getD mid 8200 0 ≡ getD old 8200 0
-  total-mid = getD-set-other old (8704 + i) 8200 number 0 (λ e. omega arith)
+  total-mid = mid-below 8200 (omega arith)
 
   -- The row neither dangled nor dangles.
   pub dangles-never : (number ≡ 1 → ⊥) → (getD old (8704 + i) 0 ≡ 1 → ⊥) → Renumbered i number old mid
   dangles-never now then =
-      renumbered mid (length-set old (8704 + i) number) mid-below mid-past (λ j. refl)
+      renumbered mid (length-set old (8704 + i) number) (λ k h. mid-below k (omega arith)) mid-past (λ j. refl)
       (λ n a b v. record {
         dangling = λ j l. mid-sets 1024 j (omega arith) (omega arith) ∙ v .dangling j l ∙ sym (same j);
         total = total-mid ∙ v .total ∙ sym (tally-same n (single? old) (single? mid) (λ j l. same j));
@@ -136,7 +137,7 @@ module _ (i number : ℕ) (old : List ℕ) (few : i < 512) (long : 9216 ≤ leng
 
     turned-over : single? new i ≡ not (single? old i) → ((n : ℕ) → n ≤ 512 → i < n → Tallied n old → getD new 8200 0 ≡ tally n (single? new)) → Renumbered i number old new
     turned-over turned t =
-        renumbered new (c .long ∙ length-set old (8704 + i) number) (λ k h. c .below k h ∙ mid-below k h) (λ k h. c .beyond k (omega arith) ∙ mid-past k h) new-counts
+        renumbered new (c .long ∙ length-set old (8704 + i) number) (λ k h. c .below k h ∙ mid-below k (omega arith)) (λ k h. c .beyond k (omega arith) ∙ mid-past k h) new-counts
         (λ n a b v. record { dangling = flipped turned n a v; total = t n a b v })
 
   pub dangles-no-longer : (number ≡ 1 → ⊥) → getD old (8704 + i) 0 ≡ 1 → (new : List ℕ) → Changed i false mid new → Renumbered i number old new
@@ -163,19 +164,23 @@ module _ (i number : ℕ) (old : List ℕ) (few : i < 512) (long : 9216 ≤ leng
 
 module _ (i : ℕ) (old : List ℕ) where
   pub lowered : (left : ℕ) → left + 1 ≡ getD old (8704 + i) 0 → (new : List ℕ) → Renumbered i left old new → Lowered i old new left
-  lowered left is new r = record { long = r .long; below = r .below; past = r .past; lowered = λ a b d. (is, r .numbered) }
+  lowered left is new r = record { long = r .long; below = r .below; past = r .past; lowered = λ a b d. (is, r .numbered, r .tallied) }
 
   -- Where the list is short, there is no such row, or its number is 0.
   pub lowered-not : (9216 ≤ length old → i < 512 → 1 ≤ getD old (8704 + i) 0 → ⊥) → Lowered i old old 0
   lowered-not f = record { long = refl; below = λ k h. refl; past = λ k h. refl; lowered = λ a b d. absurd (f a b d) }
 
-  pub raised : i < 512 → 9216 ≤ length old → getD old (8704 + i) 0 < 1024 → (new : List ℕ) → Renumbered i (getD old (8704 + i) 0 + 1) old new → Raised i old new
-  raised few long less new r =
-      record { long = r .long; below = r .below; past = r .past; raised = λ a b d. r .numbered; refused = λ f. absurd (f long few less) }
-
-  -- Where the list is short, there is no such row, or its number is not below 1024.
-  pub raised-not : (9216 ≤ length old → i < 512 → getD old (8704 + i) 0 < 1024 → ⊥) → Raised i old old
-  raised-not f = record { long = refl; below = λ k h. refl; past = λ k h. refl; raised = λ a b d. absurd (f a b d); refused = λ g. refl }
+module _ (i : ℕ) (old : List ℕ) where
+  pub raised : (few : i < 512) (long : 9216 ≤ length old) → Raised i old (mid i (getD old (8704 + i) 0 % 1024 + 1) old few long)
+  raised few long =
+      let number = getD old (8704 + i) 0 % 1024 + 1 in
+      record {
+        long = length-set old (8704 + i) number;
+        below = mid-below i number old few long;
+        past = mid-past i number old few long;
+        raised = λ a b j h. mid-count i number old few long j;
+        refused = λ f. absurd (f long few);
+      }
 
 ----------------------------------------------------------------------
 -- The lowest dangling row

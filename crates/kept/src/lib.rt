@@ -1,6 +1,9 @@
 // What is kept of a half's rows while it is decoded: of each row the number of its open qubits, the dangling rows and how many they are, and the rows on
 // each open qubit.
-ghost use Rattle.kept.specs.Kept.{Changes, Lowered, Raised, LoweredRows, Lowest};
+ghost use mathlib.Core.Path.{_≡_};
+ghost use Prim.Native.Nat.{_+_, _≤_, _<_};
+ghost use lib.ListN.{length};
+ghost use Rattle.kept.specs.Kept.{Changes, Lowered, Raised, danglingWord, Finds, LoweredRows, Lowest};
 use code::KindRow;
 use code::Qubit;
 
@@ -66,7 +69,7 @@ pub fn lower(i: KindRow, work: &mut [u64]) -> u64
     left
 }
 
-// Row i has an open qubit more.
+// Row i has an open qubit more; the dangling rows are found when all are raised.
 pub fn raise(i: KindRow, work: &mut [u64])
     ensures { λ _. ⌜ Raised (i .0) (now (work .entry)) (now (work .exit)) ⌝ }
 {
@@ -77,18 +80,57 @@ pub fn raise(i: KindRow, work: &mut [u64])
         return;
     }
     let at = NUMBERS + i.0 as usize;
-    let open = work[at];
-    if 1024 <= open {
+    work[at] = work[at] % 1024 + 1;
+}
+
+// Where the 64 rows from `from` on end, of so many rows.
+fn word_end(from: usize, count: usize) -> usize
+    requires { ⌜ (from ≤ count) × (count ≤ 512) ⌝ }
+    ensures { λ r. ⌜ (from ≤ r) × (r ≤ count) × (r ≤ from + 64) × (r < count → r ≡ from + 64) ⌝ }
+{
+    if from + 64 < count {
+        return from + 64;
+    }
+    count
+}
+
+// The rows from `from` on, below `end`, that have one open qubit, as bits of a word: that of row `from` is the lowest.
+fn dangling_word(from: usize, end: usize, work: &[u64]) -> u64
+    requires { ⌜ (from ≤ end) × (end ≤ from + 64) × (end ≤ 512) × (9216 ≤ length (now work)) ⌝ }
+    ensures { λ r. ⌜ r ≡ danglingWord from end (now (work .entry)) ⌝ }
+{
+    let mut word: u64 = 0;
+    let mut j = end;
+    while from < j {
+        j -= 1;
+        word = 2 * word + (work[NUMBERS + j] == 1) as u64;
+    }
+    word
+}
+
+// The dangling ones of so many rows, and how many they are, from the numbers of their open qubits.
+pub fn find_dangling(count: u16, work: &mut [u64])
+    ensures { λ _. ⌜ Finds count (now (work .entry)) (now (work .exit)) ⌝ }
+{
+    if work.len() < END {
         return;
     }
-    work[at] = open + 1;
-    if open == 0 {
-        change(i, true, work);
+    if 512 < count {
         return;
     }
-    if open == 1 {
-        change(i, false, work);
+    let all = count as usize;
+    let mut total: u64 = 0;
+    let mut from: usize = 0;
+    let mut k: usize = 0;
+    while k < 8 {
+        let end = word_end(from, all);
+        let word = dangling_word(from, end, work);
+        work[FIRST + k] = word;
+        total += u64::count_ones(word) as u64;
+        from = end;
+        k += 1;
     }
+    work[TOTAL] = total;
 }
 
 // Each row on qubit p, which is open no more, has an open qubit less.

@@ -1,17 +1,14 @@
 -- `kept::raise` meets its contract. Assumes nothing.
-use lib.ListN.{length-set}
-use mathlib.Core.Path.{_∙_}
-use native.Mathlib.Omega.{arith}
-use Rattle.kept.proofs.Tallying.{dangles-never, dangles-no-longer, dangles-now, raised, raised-not}
+use Rattle.kept.proofs.Tallying.{raised}
 use borrow.Author.Needs.{needs}
 use Rattle.kept.proofs.raise.Statement.{statement}
 use Rattle.kept.proofs.raise.Tie as tie
 
 returns : tie.Need-returns
-returns c = raised-not _ _ (λ a b d. omega (arith, c .if1 .taken))
+returns c = search needs
 
 returns-2 : tie.Need-returns-2
-returns-2 c = raised-not _ _ (λ a b d. omega (arith, c .if2 .taken))
+returns-2 c = search needs
 
 cast-at : tie.Need-cast-at
 cast-at c = search needs
@@ -19,57 +16,26 @@ cast-at c = search needs
 add-at : tie.Need-add-at
 add-at c = search needs
 
-mul-open : tie.Need-mul-open
-mul-open c = search needs
+mul-work : tie.Need-mul-work
+mul-work c = search needs
 
-slice-read-open : tie.Need-slice-read-open
-slice-read-open c = search needs
-
-returns-3 : tie.Need-returns-3
-returns-3 c = raised-not _ _ (λ a b d. omega (arith, c .if3 .taken))
+slice-read-work : tie.Need-slice-read-work
+slice-read-work c = search needs
 
 add-work : tie.Need-add-work
 add-work c = search needs
 
-mul-work : tie.Need-mul-work
-mul-work c = search needs
+mul-work-2 : tie.Need-mul-work-2
+mul-work-2 c = search needs
 
 slice-write-work : tie.Need-slice-write-work
 slice-write-work c = search needs
 
-change-requires : tie.Need-change-requires
-change-requires c κs = search needs
-
 same-length : tie.Need-same-length
-same-length c = c .before .before .change .ensures .long ∙ length-set (c .before .before .before .before .before .before .before .before .before .before .before .before .args .work .now) _ _
+same-length c = search needs
 
-returns-4 : tie.Need-returns-4
-returns-4 c =
-    let open-none = c .before .before .before .before .if4 .taken in
-    raised _ _ (search needs) (search needs) (search needs) _
-    (dangles-now _ _ _ (search needs) (search needs) (omega (arith, open-none)) (λ e. omega (arith, open-none)) _
-    (c .before .before .change .ensures .changed (rw length-set (search needs)) (search needs)))
-
-change-requires-2 : tie.Need-change-requires-2
-change-requires-2 c κs = search needs
-
-same-length-2 : tie.Need-same-length-2
-same-length-2 c = c .before .before .change2 .ensures .long ∙ length-set (c .before .before .before .before .before .before .before .before .before .before .before .before .before .args .work .now) _ _
-
-returns-5 : tie.Need-returns-5
-returns-5 c =
-    let open-one = c .before .before .before .before .if5 .taken in
-    raised _ _ (search needs) (search needs) (search needs) _
-    (dangles-no-longer _ _ _ (search needs) (search needs) (λ e. omega (arith, open-one)) open-one _
-    (c .before .before .change2 .ensures .changed (rw length-set (search needs)) (search needs)))
-
-same-length-3 : tie.Need-same-length-3
-same-length-3 c = search needs
-
-returns-6 : tie.Need-returns-6
-returns-6 c =
-    raised _ _ (search needs) (search needs) (search needs) _
-    (dangles-never _ _ _ (search needs) (search needs) (λ e. omega (arith, c .before .if4 .left)) (λ e. omega (arith, c .if5 .left)))
+returns-3 : tie.Need-returns-3
+returns-3 c = raised _ _ (search needs) (search needs)
 
 pub raise-spec : {M : Type 1} → statement M
 raise-spec =
@@ -79,17 +45,10 @@ raise-spec =
     returns-2
     cast-at
     add-at
-    mul-open
-    slice-read-open
-    returns-3
-    add-work
     mul-work
+    slice-read-work
+    add-work
+    mul-work-2
     slice-write-work
-    change-requires
     same-length
-    returns-4
-    change-requires-2
-    same-length-2
-    returns-5
-    same-length-3
-    returns-6)
+    returns-3)
