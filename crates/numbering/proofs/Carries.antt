@@ -1,5 +1,5 @@
 -- A carry through the planes of 64 numbers. Assumes nothing.
-use mathlib.Core.Path.{_≡_, refl, ap, _∙_, subst}
+use mathlib.Core.Path.{_≡_, refl, ap, _∙_}
 use mathlib.Core.Bool.{Bool, true, false, cond, _&&_}
 use mathlib.Core.Logic.{_⊎_, inl, inr, ⊎-elim}
 use mathlib.Core.List.{List}
@@ -12,6 +12,7 @@ use lib.ListN.{length, length-set, getD, set}
 use lib.Seq.{getD-set-same, getD-set-other}
 use Rattle.binary.specs.Bits.{_⊕_}
 use Rattle.binary.specs.Words.{bit}
+use Rattle.binary.proofs.Bits.{below-out}
 use Rattle.binary.proofs.WordBits.{bit-xor, bit-and, bit-zero}
 use Rattle.columns.specs.Planes.{planes, numberAt, Carried, number}
 use Rattle.binary.proofs.Weights.{weigh-change}
@@ -78,42 +79,38 @@ carried-then true into between out a b c s t = omega (arith, s, t)
 -- The numbers of the columns of a word
 
 -- No column of the word is to be counted.
-pub counted-nothing : (k bits other : ℕ) (m : List ℕ) → bits ≡ 0 → Counted k bits other m m
-counted-nothing k bits other m z =
+pub counted-nothing : (k weight bits : ℕ) (down : ℕ → Bool) (m : List ℕ) → bits ≡ 0 → Counted k weight bits down m m
+counted-nothing k weight bits down m z =
     record {
       long = refl;
-      sums = λ b h. (false, rw (z, bit-zero b) (still (bit other b) (number m (64 * k + b))));
+      sums = λ b h. (false, rw (z, bit-zero b) (carried-none (down b) 0 (number m (64 * k + b))));
       kept = λ j h. refl;
     }
-  where
-    still : (d : Bool) (x : ℕ) → Carried d 0 0 x x
-    still false x = refl
-    still true x = refl
 
-module _ (k bits other : ℕ) (m m′ : List ℕ) (carry : ℕ) (s : Rippled (8192 + 16 * k) 0 4 bits other m m′ carry) where
+-- The bits of 2 ^ 64 - 1.
+pub all-ones : (b : ℕ) → b < 64 → bit 18446744073709551615 b ≡ true
+unfolding bit
+all-ones b h = below-out 64 (bit 18446744073709551615) refl b h
+
+-- From plane `from` on.
+module _ (k from bits other : ℕ) (m m′ : List ℕ) (carry : ℕ) (s : Rippled (8192 + 16 * k) from 4 bits other m m′ carry) (down : ℕ → Bool)
+    (told : (b : ℕ) → b < 64 → bit other b ≡ down b) where
+  counted : (m″ : List ℕ) (r : ℕ → Bool) → length m″ ≡ length m
+      → ((b : ℕ) → Carried (bit other b) (cond (bit bits b) (2 ^ from) 0) (cond (r b) 1024 0) (numberAt m (8192 + 16 * k) b 10) (numberAt m″ (8192 + 16 * k) b 10))
+      → ((j : ℕ) → (j < 8192 + 16 * k) ⊎ (8192 + 16 * k + 16 ≤ j) → getD m″ j 0 ≡ getD m j 0) → Counted k (2 ^ from) bits down m m″
+  counted m″ r long sums kept =
+      record { long = long; sums = λ b h. (r b, rw (number-at m k b h, number-at m″ k b h, ← told b h) (sums b)); kept = kept }
+
+  outside : (j : ℕ) → (j < 8192 + 16 * k) ⊎ (8192 + 16 * k + 16 ≤ j) → getD m′ j 0 ≡ getD m j 0
+  outside j h = s .kept j (⊎-elim (λ (l : j < 8192 + 16 * k). inl (omega arith)) (λ (l : 8192 + 16 * k + 16 ≤ j). inr (omega arith)) h)
+
   -- Nothing goes on to the fifth plane.
-  pub counted-low : carry ≡ 0 → Counted k bits other m m′
+  pub counted-low : carry ≡ 0 → Counted k (2 ^ from) bits down m m′
   counted-low z =
-      record {
-        long = s .long;
-        sums = λ b h. (
-          false,
-          rw (number-at m k b h, number-at m′ k b h)
-              (subst (λ (x : Bool). Carried (bit other b) (cond (bit bits b) 1 0) (cond x 16 0) (numberAt m (8192 + 16 * k) b 10) (numberAt m′ (8192 + 16 * k) b 10))
-              (ap (λ (x : ℕ). bit x b) z ∙ bit-zero b) (s .sums 10 b (omega arith))),
-        );
-        kept = λ j h. s .kept j (⊎-elim (λ (l : j < 8192 + 16 * k). inl (omega arith)) (λ (l : 8192 + 16 * k + 16 ≤ j). inr (omega arith)) h);
-      }
+      counted m′ (λ b. false) (s .long) (λ b. rw (z, bit-zero b) at (s .sums 10 b (omega arith))) outside
 
-  pub counted-high : (m″ : List ℕ) (r : ℕ) → Rippled (8192 + 16 * k) 4 10 carry other m′ m″ r → Counted k bits other m m″
+  pub counted-high : (m″ : List ℕ) (r : ℕ) → Rippled (8192 + 16 * k) 4 10 carry other m′ m″ r → Counted k (2 ^ from) bits down m m″
   counted-high m″ r t =
-      record {
-        long = t .long ∙ s .long;
-        sums = λ b h. (
-          bit r b,
-          rw (number-at m k b h, number-at m″ k b h)
-              (carried-then (bit other b) _ (cond (bit carry b) 16 0) _ _ (numberAt m′ (8192 + 16 * k) b 10) _ (s .sums 10 b (omega arith)) (t .sums 10 b (omega arith))),
-        );
-        kept = λ j h. t .kept j (⊎-elim (λ (l : j < 8192 + 16 * k). inl (omega arith)) (λ (l : 8192 + 16 * k + 16 ≤ j). inr (omega arith)) h)
-            ∙ s .kept j (⊎-elim (λ (l : j < 8192 + 16 * k). inl (omega arith)) (λ (l : 8192 + 16 * k + 16 ≤ j). inr (omega arith)) h);
-      }
+      counted m″ (bit r) (t .long ∙ s .long)
+      (λ b. carried-then (bit other b) _ (cond (bit carry b) 16 0) _ _ (numberAt m′ (8192 + 16 * k) b 10) _ (s .sums 10 b (omega arith)) (t .sums 10 b (omega arith)))
+      (λ j h. t .kept j (⊎-elim (λ (l : j < 8192 + 16 * k). inl (omega arith)) (λ (l : 8192 + 16 * k + 16 ≤ j). inr (omega arith)) h) ∙ outside j h)

@@ -20,7 +20,7 @@ use Rattle.columns.specs.Planes.{planes, Carried, number}
 use Rattle.columns.specs.Columns.{untaken}
 use Rattle.binary.proofs.Weights.{weigh-same}
 use Rattle.columns.proofs.Numbers.{untaken-at}
-use Rattle.numbering.specs.Numbering.{Counted, Stays, inside?, RowsIn, Added, Adds, NumberedRow}
+use Rattle.numbering.specs.Numbering.{Counted, Stays, inside?, RowsIn, Joined, WhereInside, NumberedRow}
 
 -- A number is told by its planes.
 pub number-same : (m m′ : List ℕ) (c : ℕ) → ((p : ℕ) → p < 10 → getD m′ (8192 + 16 * (c / 64) + p) 0 ≡ getD m (8192 + 16 * (c / 64) + p) 0)
@@ -31,23 +31,23 @@ number-same m m′ c h = weigh-same (λ p. 2 ^ p) 10 _ _ (λ p l. ap (λ (x : �
 ----------------------------------------------------------------------
 -- Word by word
 
--- The first k words are counted: each column has one more where it is in `into`, or one less where it is in `down` too.
-pub record Counting (k : ℕ) (down into : ℕ → Bool) (m m′ : List ℕ) : Type 0 where
+-- The first k words are counted: each column has as many more as the weight says where it is in `into`, or as many less where it is in `down` too.
+pub record Counting (weight k : ℕ) (down into : ℕ → Bool) (m m′ : List ℕ) : Type 0 where
   pub stays : Stays m m′
   pub later : (j : ℕ) → 8192 + 16 * k ≤ j → j < 8448 → getD m′ j 0 ≡ getD m j 0
-  pub numbers : (c : ℕ) → c < 64 * k → (x : Bool) × Carried (down c) (cond (into c) 1 0) (cond x 1024 0) (number m c) (number m′ c)
+  pub numbers : (c : ℕ) → c < 64 * k → (x : Bool) × Carried (down c) (cond (into c) weight 0) (cond x 1024 0) (number m c) (number m′ c)
 
-module _ (down into : ℕ → Bool) (m₀ : List ℕ) where
-  pub counting-none : Counting 0 down into m₀ m₀
+module _ (weight : ℕ) (down into : ℕ → Bool) (m₀ : List ℕ) where
+  pub counting-none : Counting weight 0 down into m₀ m₀
   counting-none = record { stays = λ k h. refl; later = λ j h l. refl; numbers = λ c h. absurd (omega arith) }
 
-  module _ (k : ℕ) (m : List ℕ) (s : Counting k down into m₀ m) (few : k < 16) where
+  module _ (k : ℕ) (m : List ℕ) (s : Counting weight k down into m₀ m) (few : k < 16) where
     -- From a list with the same planes and untaken columns to one that differs in the planes of word k.
     counting-more : (m₁ m₂ : List ℕ) → ((j : ℕ) → 8192 ≤ j → getD m₁ j 0 ≡ getD m j 0)
         → ((j : ℕ) → (j < 8192 + 16 * k) ⊎ (8192 + 16 * k + 16 ≤ j) → getD m₂ j 0 ≡ getD m₁ j 0)
         → ((b : ℕ) → b < 64
-        → (x : Bool) × Carried (down (64 * k + b)) (cond (into (64 * k + b)) 1 0) (cond x 1024 0) (number m₁ (64 * k + b)) (number m₂ (64 * k + b)))
-        → Counting (k + 1) down into m₀ m₂
+        → (x : Bool) × Carried (down (64 * k + b)) (cond (into (64 * k + b)) weight 0) (cond x 1024 0) (number m₁ (64 * k + b)) (number m₂ (64 * k + b)))
+        → Counting weight (k + 1) down into m₀ m₂
     counting-more m₁ m₂ same kept new =
         record {
           stays = λ j h. kept j (inr (omega arith)) ∙ same j (omega arith) ∙ s .stays j h;
@@ -62,21 +62,21 @@ module _ (down into : ℕ → Bool) (m₀ : List ℕ) where
         }
       where
         here : (c : ℕ) → c < 64 * (k + 1) → 64 * k ≤ c
-            → (x : Bool) × Carried (down c) (cond (into c) 1 0) (cond x 1024 0) (number m₀ c) (number m₂ c)
+            → (x : Bool) × Carried (down c) (cond (into c) weight 0) (cond x 1024 0) (number m₀ c) (number m₂ c)
         here c h g =
             let e : 64 * k + c % 64 ≡ c = omega arith in
             let z = new (c % 64) (omega arith) in
             let old = number-same m₀ m₁ c (λ p l. same (8192 + 16 * (c / 64) + p) (omega arith) ∙ s .later (8192 + 16 * (c / 64) + p) (omega arith) (omega arith)) in
-            (z .0, rw (← old) (subst (λ (x : ℕ). Carried (down x) (cond (into x) 1 0) (cond (z .0) 1024 0) (number m₁ x) (number m₂ x)) e (z .1)))
+            (z .0, rw (← old) (subst (λ (x : ℕ). Carried (down x) (cond (into x) weight 0) (cond (z .0) 1024 0) (number m₁ x) (number m₂ x)) e (z .1)))
 
-    pub counting-word : (bits other : ℕ) (m₁ m₂ : List ℕ) → ((j : ℕ) → 8192 ≤ j → getD m₁ j 0 ≡ getD m j 0) → Counted k bits other m₁ m₂
-        → ((b : ℕ) → b < 64 → bit other b ≡ down (64 * k + b)) → ((b : ℕ) → b < 64 → bit bits b ≡ into (64 * k + b))
-        → Counting (k + 1) down into m₀ m₂
-    counting-word bits other m₁ m₂ same t d i =
+    pub counting-word : (bits : ℕ) (less : ℕ → Bool) (m₁ m₂ : List ℕ) → ((j : ℕ) → 8192 ≤ j → getD m₁ j 0 ≡ getD m j 0) → Counted k weight bits less m₁ m₂
+        → ((b : ℕ) → b < 64 → less b ≡ down (64 * k + b)) → ((b : ℕ) → b < 64 → bit bits b ≡ into (64 * k + b))
+        → Counting weight (k + 1) down into m₀ m₂
+    counting-word bits less m₁ m₂ same t d i =
         counting-more m₁ m₂ same (t .kept) (λ b h. let z = t .sums b h in (
           z .0,
-          subst (λ (x : Bool). Carried x (cond (into (64 * k + b)) 1 0) (cond (z .0) 1024 0) (number m₁ (64 * k + b)) (number m₂ (64 * k + b))) (d b h)
-              (subst (λ (x : Bool). Carried (bit other b) (cond x 1 0) (cond (z .0) 1024 0) (number m₁ (64 * k + b)) (number m₂ (64 * k + b))) (i b h) (z .1)),
+          subst (λ (x : Bool). Carried x (cond (into (64 * k + b)) weight 0) (cond (z .0) 1024 0) (number m₁ (64 * k + b)) (number m₂ (64 * k + b))) (d b h)
+              (subst (λ (x : Bool). Carried (less b) (cond x weight 0) (cond (z .0) 1024 0) (number m₁ (64 * k + b)) (number m₂ (64 * k + b))) (i b h) (z .1)),
         ))
 
 -- The untaken bits of a row's word.
@@ -102,22 +102,28 @@ row-bits w i k m₀ m same stays b l =
 -- A row counted
 
 pub counted-row : (w i : ℕ) (m m′ : List ℕ) → length m′ ≡ length m → ((k : ℕ) → k < 8192 → getD m′ k 0 ≡ getD m k 0)
-    → Counting w (λ c. false) (λ c. cell m w i c && untaken m c) m m′ → NumberedRow w i m m′
+    → Counting 1 w (λ c. false) (λ c. cell m w i c && untaken m c) m m′ → NumberedRow w i m m′
 counted-row w i m m′ e kept s = record { long = e; kept = kept; stays = s .stays; numbers = s .numbers }
 
 ----------------------------------------------------------------------
 -- A row added
 
 -- The first k words are added.
-pub record Adding (w from to k : ℕ) (m m′ : List ℕ) : Type 0 where
+pub record Joining (weight : ℕ) (down into : ℕ → Bool) (w from to k : ℕ) (m m′ : List ℕ) : Type 0 where
   pub long : length m′ ≡ length m
   pub words : (j : ℕ) → j < k → getD m′ (to * w + j) 0 ≡ bitXor (getD m (to * w + j) 0) (getD m (from * w + j) 0)
   pub kept : (j : ℕ) → j < 8192 → (j < to * w) ⊎ (to * w + k ≤ j) → getD m′ j 0 ≡ getD m j 0
-  pub counting : Counting k (cell m w to) (λ c. cell m w from c && untaken m c) m m′
+  pub counting : Counting weight k down into m m′
 
-pub adding-none : (w from to : ℕ) (m : List ℕ) → Adding w from to 0 m m
-adding-none w from to m =
-    record { long = refl; words = λ j h. absurd (omega arith); kept = λ j h l. refl; counting = counting-none (cell m w to) (λ c. cell m w from c && untaken m c) m }
+abbrev pub Adding : ℕ → ℕ → ℕ → ℕ → List ℕ → List ℕ → Type 0
+Adding w from to k m m′ = Joining 1 (cell m w to) (λ c. cell m w from c && untaken m c) w from to k m m′
+
+abbrev pub Merging : ℕ → ℕ → ℕ → ℕ → List ℕ → List ℕ → Type 0
+Merging w from to k m m′ = Joining 2 (λ c. true) (λ c. cell m w from c && cell m w to c && untaken m c) w from to k m m′
+
+pub joining-none : (weight : ℕ) (down into : ℕ → Bool) (w from to : ℕ) (m : List ℕ) → Joining weight down into w from to 0 m m
+joining-none weight down into w from to m =
+    record { long = refl; words = λ j h. absurd (omega arith); kept = λ j h l. refl; counting = counting-none weight down into m }
 
 -- Row i ends before the planes.
 pub row-ends : (w i : ℕ) → w ≤ 16 → i < 512 → i * w + w ≤ 8192
@@ -129,7 +135,8 @@ ahead w from to k h =
     ⊎-elim (λ (p : from < to). inl (omega (arith, apart w from to p)))
     (λ (p : to ≤ from). inr (omega (arith, mul-le-mul-right {m = to} {n = from} w p))) (order from to)
 
-module _ (w from to k : ℕ) (m₀ m : List ℕ) (wide : w ≤ 16) (low : from * w + w ≤ 8192) (ends : to * w + w ≤ 8192) (room : 10240 ≤ length m₀) (s : Adding w from to k m₀ m) (h : k < w) where
+module _ (weight : ℕ) (down into : ℕ → Bool) (w from to k : ℕ) (m₀ m : List ℕ) (wide : w ≤ 16) (low : from * w + w ≤ 8192) (ends : to * w + w ≤ 8192) (room : 10240 ≤ length m₀)
+    (s : Joining weight down into w from to k m₀ m) (h : k < w) where
   abbrev new : ℕ
   new = getD m (from * w + k) 0
 
@@ -142,10 +149,11 @@ module _ (w from to k : ℕ) (m₀ m : List ℕ) (wide : w ≤ 16) (low : from *
   old-same : getD m (to * w + k) 0 ≡ getD m₀ (to * w + k) 0
   old-same = s .kept (to * w + k) (omega arith) (inr (omega arith))
 
-  pub adding-more : (m₂ : List ℕ)
-      → Counted k (bitAnd new (getD m (8448 + k) 0)) old (set m (to * w + k) (bitXor old new)) m₂
-      → Adding w from to (k + 1) m₀ m₂
-  adding-more m₂ t =
+  -- The bits of both words are cells.
+  joining-more : (bits : ℕ) (less : ℕ → Bool) (m₂ : List ℕ) → Counted k weight bits less (set m (to * w + k) (bitXor old new)) m₂
+      → ((b : ℕ) → b < 64 → bit old b ≡ cell m₀ w to (64 * k + b) → bit new b ≡ cell m₀ w from (64 * k + b)
+      → (less b ≡ down (64 * k + b)) × (bit bits b ≡ into (64 * k + b))) → Joining weight down into w from to (k + 1) m₀ m₂
+  joining-more bits less m₂ t told =
       record {
         long = t .long ∙ length-set m (to * w + k) v ∙ s .long;
         words = λ j l. t .kept (to * w + j) (inl (omega arith)) ∙ ⊎-elim
@@ -156,23 +164,40 @@ module _ (w from to k : ℕ) (m₀ m : List ℕ) (wide : w ≤ 16) (low : from *
         kept = λ j l o. t .kept j (inl (omega arith))
             ∙ getD-set-other m (to * w + k) j v 0 (λ e. ⊎-elim (λ (p : j < to * w). omega arith) (λ (p : to * w + (k + 1) ≤ j). omega arith) o)
             ∙ s .kept j l (⊎-elim (λ p. inl p) (λ (p : to * w + (k + 1) ≤ j). inr (omega arith)) o);
-        counting = counting-word (cell m₀ w to) (λ c. cell m₀ w from c && untaken m₀ c) m₀ k m (s .counting) (omega arith) (bitAnd new (getD m (8448 + k) 0)) old m₁ m₂ above t
-            (λ b l. ap (λ (x : ℕ). bit x b) old-same ∙ cell-bit m₀ w to k b l)
-            (row-bits w from k m₀ m new-same (s .counting .stays));
+        counting = counting-word weight down into m₀ k m (s .counting) (omega arith) bits less (set m (to * w + k) v) m₂
+            (λ j g. getD-set-other m (to * w + k) j v 0 (λ e. omega arith)) t (λ b l. by b l .0) (λ b l. by b l .1);
       }
     where
       v : ℕ
       v = bitXor old new
 
-      m₁ : List ℕ
-      m₁ = set m (to * w + k) (bitXor old new)
+      by : (b : ℕ) → b < 64 → (less b ≡ down (64 * k + b)) × (bit bits b ≡ into (64 * k + b))
+      by b l =
+          told b l (ap (λ (x : ℕ). bit x b) old-same ∙ cell-bit m₀ w to k b l) (ap (λ (x : ℕ). bit x b) new-same ∙ cell-bit m₀ w from k b l)
 
-      above : (j : ℕ) → 8192 ≤ j → getD m₁ j 0 ≡ getD m j 0
-      above j g = getD-set-other m (to * w + k) j v 0 (λ e. omega arith)
+module _ (w from to k : ℕ) (m₀ m : List ℕ) (wide : w ≤ 16) (low : from * w + w ≤ 8192) (ends : to * w + w ≤ 8192) (room : 10240 ≤ length m₀) where
+  abbrev sum : List ℕ
+  sum = set m (to * w + k) (bitXor (getD m (to * w + k) 0) (getD m (from * w + k) 0))
 
-pub added : (w from to : ℕ) (m m′ : List ℕ) → Adding w from to w m m′ → Added w from to m m′
+  pub adding-more : Adding w from to k m₀ m → k < w → (m₂ : List ℕ)
+      → Counted k 1 (bitAnd (getD m (from * w + k) 0) (getD m (8448 + k) 0)) (bit (getD m (to * w + k) 0)) sum m₂ → Adding w from to (k + 1) m₀ m₂
+  adding-more s h m₂ t =
+      joining-more _ _ _ w from to k m₀ m wide low ends room s h _ _ m₂ t
+      (λ b l x y. (x, untaken-bits k m₀ m (s .counting .stays) (getD m (from * w + k) 0) b l ∙ ap (_&& untaken m₀ (64 * k + b)) y))
+
+  pub merging-more : Merging w from to k m₀ m → k < w → (m₂ : List ℕ)
+      → Counted k 2 (bitAnd (bitAnd (getD m (from * w + k) 0) (getD m (to * w + k) 0)) (getD m (8448 + k) 0)) (λ _. true) sum m₂ → Merging w from to (k + 1) m₀ m₂
+  merging-more s h m₂ t =
+      joining-more _ _ _ w from to k m₀ m wide low ends room s h _ _ m₂ t
+      (λ b l x y. (
+        refl,
+        untaken-bits k m₀ m (s .counting .stays) (bitAnd (getD m (from * w + k) 0) (getD m (to * w + k) 0)) b l
+            ∙ ap (_&& untaken m₀ (64 * k + b)) (bit-and (getD m (from * w + k) 0) (getD m (to * w + k) 0) b ∙ ap₂ _&&_ y x),
+      ))
+
+pub joined : (weight : ℕ) (down into : ℕ → Bool) (w from to : ℕ) (m m′ : List ℕ) → Joining weight down into w from to w m m′ → Joined weight down into w from to m m′
 unfolding cell
-added w from to m m′ s =
+joined weight down into w from to m m′ s =
     record {
       long = s .long;
       cells = λ c h. ap (λ (x : ℕ). bit x (c % 64)) (s .words (c / 64) (omega arith)) ∙ bit-xor (getD m (to * w + c / 64) 0) (getD m (from * w + c / 64) 0) (c % 64);
@@ -205,8 +230,8 @@ module _ (w from to : ℕ) (m : List ℕ) (r s : Bool) (a : r ≡ inside? (lengt
       let y = inside-out (length m) w to (sym b ∙ z .1) in
       (x .0, x .1, y .1, x .2)
 
-  pub adds-yes : (m′ : List ℕ) → (r && s) ≡ true → Added w from to m m′ → Adds w from to m m′
-  adds-yes m′ t x = record { added = λ _ _. x; refused = λ f. never t (rw (a, b) f) }
+  pub where-inside : (m′ : List ℕ) (Change : Type 0) → (r && s) ≡ true → Change → WhereInside w from to m m′ Change
+  where-inside m′ Change t x = record { made = λ _ _. x; refused = λ f. never t (rw (a, b) f) }
 
-  pub adds-no : (r && s) ≡ false → Adds w from to m m
-  adds-no f = record { added = λ x y. never (and-in (a ∙ x) (b ∙ y)) f; refused = λ _. refl }
+  pub not-inside : (Change : Type 0) → (r && s) ≡ false → WhereInside w from to m m Change
+  not-inside Change f = record { made = λ x y. never (and-in (a ∙ x) (b ∙ y)) f; refused = λ _. refl }

@@ -1,12 +1,12 @@
 // The number of rows that have each untaken column, kept as rows are added. The numbers lie in bit planes, a bit of 64 numbers to a word, so that a row
 // that is added changes 64 of them at once.
 ghost use mathlib.Core.Path.{_≡_};
-ghost use mathlib.Core.Bool.{not, _&&_};
+ghost use mathlib.Core.Bool.{true, not, _&&_};
 ghost use Prim.Native.Nat.{_+_, _≤_, _<_};
 ghost use lib.Dec.{ltb};
 ghost use lib.ListN.{length};
-ghost use Rattle.binary.specs.Words.{listed};
-ghost use Rattle.numbering.specs.Numbering.{Rippled, Counted, inside?, RowsIn, Added, Adds, KnownWord, KnownSet, NumberedRow, NumberedRows, Starts};
+ghost use Rattle.binary.specs.Words.{bit, listed};
+ghost use Rattle.numbering.specs.Numbering.{Rippled, Counted, inside?, RowsIn, Added, Merged, Adds, Merges, KnownWord, KnownSet, NumberedRow, NumberedRows, Starts};
 
 // Where the work list has the planes, 16 words for 64 columns, and the set of untaken columns.
 const PLANES: usize = 8192;
@@ -33,7 +33,7 @@ fn ripple(m: &mut [u64], at: usize, from: usize, end: usize, first: u64, other: 
 // One more row in each column of word `k` that `bits` has, or one less where the other word has it too. Few numbers pass 15.
 fn count(m: &mut [u64], k: usize, bits: u64, other: u64)
     requires { ⌜ (k < 16) × (10240 ≤ length (now m)) ⌝ }
-    ensures { λ _. ⌜ Counted k bits other (now (m .entry)) (now (m .exit)) ⌝ }
+    ensures { λ _. ⌜ Counted k 1 bits (bit other) (now (m .entry)) (now (m .exit)) ⌝ }
 {
     if bits == 0 {
         return;
@@ -42,6 +42,21 @@ fn count(m: &mut [u64], k: usize, bits: u64, other: u64)
     let carry = ripple(m, at, 0, 4, bits, other);
     if carry != 0 {
         ripple(m, at, 4, 10, carry, other);
+    }
+}
+
+// Two rows less in each column of word `k` that `bits` has.
+fn count_two_less(m: &mut [u64], k: usize, bits: u64)
+    requires { ⌜ (k < 16) × (10240 ≤ length (now m)) ⌝ }
+    ensures { λ _. ⌜ Counted k 2 bits (λ _. true) (now (m .entry)) (now (m .exit)) ⌝ }
+{
+    if bits == 0 {
+        return;
+    }
+    let at = PLANES + 16 * k;
+    let carry = ripple(m, at, 1, 4, bits, u64::MAX);
+    if carry != 0 {
+        ripple(m, at, 4, 10, carry, u64::MAX);
     }
 }
 
@@ -63,6 +78,24 @@ fn add_words(m: &mut [u64], w: usize, from: usize, to: usize)
     }
 }
 
+// Row `from` is added to row `to`, and is counted no more.
+fn merge_words(m: &mut [u64], w: usize, from: usize, to: usize)
+    requires { ⌜ RowsIn w from to (now m) ⌝ }
+    ensures { λ _. ⌜ Merged w from to (now (m .entry)) (now (m .exit)) ⌝ }
+{
+    let a = from * w;
+    let b = to * w;
+    let mut k = 0;
+    while k < w {
+        let new = m[a + k];
+        let old = m[b + k];
+        let bits = new & old & m[UNTAKEN + k];
+        m[b + k] = old ^ new;
+        count_two_less(m, k, bits);
+        k += 1;
+    }
+}
+
 // Whether row i of `w` words lies in the list, before the planes.
 fn lies_in(len: usize, w: usize, i: usize) -> bool
     ensures { λ r. ⌜ r ≡ inside? len w i ⌝ }
@@ -77,6 +110,16 @@ pub fn add_row(work: &mut [u64], w: usize, from: usize, to: usize)
 {
     if lies_in(work.len(), w, from) & lies_in(work.len(), w, to) {
         add_words(work, w, from, to);
+    }
+}
+
+// Row `from` is added to row `to`, and is counted no more, though its words stay: the number of an untaken column that both have falls by two, any other stays.
+// Rows that do not lie in the list are not merged.
+pub fn merge_row(work: &mut [u64], w: usize, from: usize, to: usize)
+    ensures { λ _. ⌜ Merges w from to (now (work .entry)) (now (work .exit)) ⌝ }
+{
+    if lies_in(work.len(), w, from) & lies_in(work.len(), w, to) {
+        merge_words(work, w, from, to);
     }
 }
 

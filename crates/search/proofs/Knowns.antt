@@ -1,30 +1,31 @@
 -- The columns that are not lost, the shortest first: the stand of the search follows the route. Assumes nothing.
-use mathlib.Core.Path.{_≡_, refl, sym, ap, _∙_, fun-ext}
-use mathlib.Core.Bool.{Bool, true, not, _&&_}
-use mathlib.Core.Logic.{_⊎_, inl, inr, ⊎-elim}
+use mathlib.Core.Path.{_≡_, refl, sym, ap, _∙_, subst, fun-ext}
+use mathlib.Core.Bool.{Bool, true, false, not, _&&_}
+use mathlib.Core.Logic.{inl, inr, ⊎-elim}
 use mathlib.Core.List.{List}
-use mathlib.Core.Option.{Option}
+use mathlib.Core.Option.{Option, none, some}
 use Prim.Native.Nat.{ℕ, zero, suc, _+_, _-_, _*_, _/_, _≤_, _<_}
 use native.Mathlib.Numerals.{add-one}
 use native.Mathlib.Omega.{arith}
 use borrow.Author.Tests.{le-leb, lt-ltb, le-ltb}
 use lib.Dec.{eqb, leb, ltb}
 use lib.ListN as lists
+use Rattle.binary.specs.Meaning.{Qubits}
 use Rattle.packing.specs.Packed.{cell}
 use Rattle.columns.specs.Planes.{number}
 use Rattle.columns.specs.Columns.{untaken, rowsWith, Numbered}
 use Rattle.choosing.specs.declared.Shortest.{Shortest}
 use Rattle.choosing.specs.Choosing.{ShortestOf, room?}
 use Rattle.choosing.specs.Choosing as choosing
-use Rattle.search.specs.Route.{Stand, length, without, take, shortest, stepBy, step, steps, first}
-use Rattle.search.specs.Search.{Takes, rowOf, standOf, Sound, Knowns}
+use Rattle.search.specs.Route.{Stand, length, without, takeBy, take, shortest, stepBy, step, steps}
+use Rattle.search.specs.Search.{Takes, rowOf, standOf, Same, Sound, Knowns}
 use Rattle.binary.proofs.Bits.{bit, &&-true, and-in, and-out, tally-same}
 use Rattle.binary.proofs.WordBits.{order}
 use Rattle.numbering.proofs.Counting.{row-ends}
 use Rattle.numbering.proofs.Numbered.{cell-same}
 use Rattle.search.proofs.Rows.{none-left}
-use Rattle.search.proofs.Choices.{shortest-none, shortest-some}
-use Rattle.search.proofs.Stands.{numbered-less, untaken-word, columns-same, row-same, stand-eq, same-trans, take-same, take-untaken, takes-stand}
+use Rattle.search.proofs.Choices.{first-none, shortest-none, shortest-some}
+use Rattle.search.proofs.Stands.{numbered-less, untaken-word, columns-same, row-none, row-left, row-same, stand-eq, same-eq, same-trans, take-same, take-untaken, takes-stand}
 
 ----------------------------------------------------------------------
 -- The shortest column is taken
@@ -138,9 +139,24 @@ steps-idle n rows k (suc d) s t e i =
     let z : suc d + k ≡ suc (d + k) = omega arith in
     rw z (ap (step n rows) (steps-idle n rows k d s t e i) ∙ i)
 
+-- Once no row is left, only the untaken columns change.
+step-empty : (n rows : ℕ) (s : Stand) → ((i q : ℕ) → s .row i q ≡ false) → Same (step n rows s) s
+step-empty n rows s h = by (shortest (length rows s) n (s .untaken))
+  where
+    by : (r : Option ℕ) → Same (stepBy rows r s) s
+    by none = (refl, refl)
+    by (some q) = subst (λ (r : Option ℕ). Same (takeBy r q s) s) (sym (first-none rows (λ i. s .row i q) (λ i l. h i q))) (refl, refl)
+
+steps-empty : (n rows k d : ℕ) (s t : Stand) → Same (steps n rows k s) t → ((i q : ℕ) → t .row i q ≡ false) → Same (steps n rows (d + k) s) t
+steps-empty n rows k zero s t e h = let z : 0 + k ≡ k = omega arith in rw z e
+steps-empty n rows k (suc d) s t e h =
+    let z : suc d + k ≡ suc (d + k) = omega arith in
+    let r = steps-empty n rows k d s t e h in
+    rw z (same-trans (step n rows (steps n rows (d + k) s)) (steps n rows (d + k) s) t (step-empty n rows (steps n rows (d + k) s) (λ i q. ap (λ (x : ℕ → Qubits). x i q) (r .1) ∙ h i q)) r)
+
 module _ (n w rows k top : ℕ) (m₀ m : List ℕ) (within : top ≤ rows) (long : lists.length m ≡ lists.length m₀) (h : k ≤ n) (e : standOf n w rows top m ≡ steps n rows k (standOf n w rows 0 m₀)) where
   pub knowns-end : k ≡ n → Knowns n w rows m₀ top m
-  knowns-end d = record { long = long; within = within; stands = rw d at e }
+  knowns-end d = record { long = long; within = within; stands = same-eq (standOf n w rows top m) (steps n rows n (standOf n w rows 0 m₀)) (rw d at e) }
 
   -- No column is untaken any more.
   pub knowns-idle : (m′ : List ℕ) → m′ ≡ m → step n rows (standOf n w rows top m) ≡ standOf n w rows top m → Knowns n w rows m₀ top m′
@@ -149,5 +165,16 @@ module _ (n w rows k top : ℕ) (m₀ m : List ℕ) (within : top ≤ rows) (lon
       record {
         long = ap lists.length d ∙ long;
         within = within;
-        stands = rw d (sym (rw z at (steps-idle n rows k (n - k) (standOf n w rows 0 m₀) (standOf n w rows top m) (sym e) i)));
+        stands = rw d (same-eq (standOf n w rows top m) (steps n rows n (standOf n w rows 0 m₀))
+            (sym (rw z at (steps-idle n rows k (n - k) (standOf n w rows 0 m₀) (standOf n w rows top m) (sym e) i))));
       }
+
+  -- No row is left.
+  pub knowns-empty : top ≡ rows → Knowns n w rows m₀ top m
+  knowns-empty d =
+      let z : (n - k) + k ≡ n = omega arith in
+      let r = rw z at (steps-empty n rows k (n - k) (standOf n w rows 0 m₀) (standOf n w rows top m) (same-eq (steps n rows k (standOf n w rows 0 m₀)) (standOf n w rows top m) (sym e)) empty) in
+      record { long = long; within = within; stands = (sym (r .0), sym (r .1)) }
+    where
+      empty : (i q : ℕ) → rowOf n w rows top m i q ≡ false
+      empty i q = ⊎-elim (λ (l : i < top). row-left n w rows top m i q l) (λ (l : top ≤ i). row-none n w rows top m i q (omega arith)) (order i top)

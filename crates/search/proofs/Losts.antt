@@ -1,7 +1,7 @@
 -- The lost columns, ascending: the stand of the search follows the route, and those that a row clears are marked. Assumes nothing.
 use mathlib.Core.Path.{_≡_, refl, ap, ap₂, _∙_}
-use mathlib.Core.Bool.{Bool, true, false, not, cond, _&&_}
-use mathlib.Core.Logic.{_⊎_, ⊎-elim}
+use mathlib.Core.Bool.{true, not, cond, _&&_}
+use mathlib.Core.Logic.{⊎-elim}
 use mathlib.Core.List.{List}
 use mathlib.Core.Option.{Option}
 use Prim.Native.Nat.{ℕ, suc, _+_, _*_, _≤_, _<_}
@@ -15,11 +15,10 @@ use lib.ListN as lists
 use lib.Seq.{getD-set-same, getD-set-other}
 use Rattle.binary.specs.Meaning.{Qubits}
 use Rattle.binary.specs.Words.{listed}
-use Rattle.choosing.specs.Choosing as choosing
-use Rattle.search.specs.Route.{length, some?, take, ascend, first}
-use Rattle.search.specs.Search.{Takes, standOf, Same, LostTaken, Losts}
+use Rattle.search.specs.Route.{some?, take, ascend, first}
+use Rattle.search.specs.Search.{Takes, standOf, LostTaken, Losts}
 use Rattle.binary.proofs.WordBits.{order}
-use Rattle.search.proofs.Stands.{same-trans, take-same, takes-stand, clearing-by}
+use Rattle.search.proofs.Stands.{same-trans, take-if-same, takes-stand, clearing-by}
 
 ----------------------------------------------------------------------
 -- A lost column
@@ -95,7 +94,8 @@ module _ (n w rows : ℕ) (lost : List ℕ) (top : ℕ) (m marks : List ℕ) whe
         low = omega (arith, x .low, s .low);
         within = x .within;
         order = λ k h. x .order k (omega (arith, s .low)) ∙ s .order k h;
-        stands = rw add-one (same-trans (standOf n w rows r₂ m₂) (cond (listed n lost q) (take rows q (standOf n w rows r₁ m₁)) (standOf n w rows r₁ m₁)) (ascend rows (listed n lost) (suc q) (standOf n w rows top m)) (x .stands) (onward (listed n lost q)));
+        stands = rw add-one (same-trans (standOf n w rows r₂ m₂) (cond (listed n lost q) (take rows q (standOf n w rows r₁ m₁)) (standOf n w rows r₁ m₁)) (ascend rows (listed n lost) (suc q) (standOf n w rows top m)) (x .stands)
+            (take-if-same rows q (standOf n w rows r₁ m₁) (ascend rows (listed n lost) q (standOf n w rows top m)) (listed n lost q) (s .stands)));
         marked = λ p h. ⊎-elim
             (λ (g : p < q). x .kept p (λ e. omega arith) ∙ s .marked p g)
             (λ (g : q ≤ p). let e : p ≡ q = omega arith in
@@ -103,8 +103,3 @@ module _ (n w rows : ℕ) (lost : List ℕ) (top : ℕ) (m marks : List ℕ) whe
             (order p q);
         kept = λ p h. x .kept p (λ e. omega arith) ∙ s .kept p (omega arith);
       }
-    where
-      onward : (b : Bool) → Same (cond b (take rows q (standOf n w rows r₁ m₁)) (standOf n w rows r₁ m₁))
-          (cond b (take rows q (ascend rows (listed n lost) q (standOf n w rows top m))) (ascend rows (listed n lost) q (standOf n w rows top m)))
-      onward true = take-same rows q (standOf n w rows r₁ m₁) (ascend rows (listed n lost) q (standOf n w rows top m)) (s .stands)
-      onward false = s .stands

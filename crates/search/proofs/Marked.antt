@@ -9,22 +9,22 @@ use native.Mathlib.Omega.{arith}
 use borrow.Author.Tests.{not-true, leb-true, le-leb, lt-ltb, le-ltb}
 use lib.Dec.{leb, ltb}
 use lib.ListN.{length, getD}
-use Rattle.binary.specs.Meaning.{Row, Below, All, has}
+use Rattle.binary.specs.Meaning.{Qubits, Row, Below, All, has}
 use Rattle.binary.specs.Words.{listed}
 use Rattle.packing.specs.Packed.{wordsFor, Packed}
 use Rattle.columns.specs.Columns.{untaken}
 use Rattle.numbering.specs.Numbering.{startable?, Started, Starts}
 use Rattle.search.specs.declared.Search.the-variants.{Short, Made}
-use Rattle.search.specs.Route.{Stand, some?, clearing, steps, ascend, begin, known, route}
+use Rattle.search.specs.Route.{first, some?, clearing, steps, ascend, begin, known, route}
 use Rattle.search.specs.Marked.{enough, Searched, Marked}
-use Rattle.search.specs.Search.{ColumnsIn, rowOf, standOf, Sound, Knowns, Losts}
+use Rattle.search.specs.Search.{ColumnsIn, rowOf, standOf, Same, Sound, Knowns, Losts}
 use Rattle.binary.proofs.Bits.{bit, never, and-in, and-out}
 use Rattle.binary.proofs.Rows.{all-out, has-below}
 use Rattle.binary.proofs.WordBits.{order}
 use Rattle.packing.proofs.Rows.{few-words}
 use Rattle.numbering.proofs.Counting.{row-ends}
 use Rattle.numbering.proofs.Numbered.{cell-same}
-use Rattle.search.proofs.Stands.{columns-same, row-in, row-none, row-past, stand-eq}
+use Rattle.search.proofs.Stands.{columns-same, row-in, row-none, row-past, stand-eq, ascend-same}
 use Rattle.search.proofs.Route.{row-at, fixed-cleared}
 
 ----------------------------------------------------------------------
@@ -105,18 +105,23 @@ module _ (n rows w : ℕ) (lost work marks m₁ m₂ m₃ marks′ : List ℕ) (
   searched rs e packed rows-below =
       record {
         marked = λ q h. d .marked q h ∙ ap (λ (x : Bool). cond x 1 (getD marks q 0))
-            (ap (λ (x : Stand). listed n lost q && some? (clearing rows q (ascend rows (listed n lost) q x))) stands
+            (ap (λ (x : ℕ → Qubits). listed n lost q && some? (first rows (λ i. x i q))) (then q .1)
             ∙ ap (λ (x : ℕ). listed n lost q && some? (clearing x q (ascend x (listed n lost) q (known n rs (listed n lost))))) (sym e)
             ∙ sym (fixed-cleared n rs rows-below (listed n lost) q));
-        first = columns-same top m₂ m₃ (d .order) ∙ ap (λ (x : Stand). x .columns) stands;
-        taken = d .stands .0 ∙ ap (λ (x : Stand). ascend rows (listed n lost) n x .columns) stands
-            ∙ ap (λ (x : ℕ). ascend x (listed n lost) n (known n rs (listed n lost)) .columns) (sym e);
+        first = columns-same top m₂ m₃ (d .order) ∙ stands .0;
+        taken = d .stands .0 ∙ then n .0 ∙ ap (λ (x : ℕ). ascend x (listed n lost) n (known n rs (listed n lost)) .columns) (sym e);
       }
     where
-      stands : standOf n w rows top m₂ ≡ known n rs (listed n lost)
-      stands =
-          b .stands ∙ ap (steps n rows n) (begin-stands n rows w lost work m₁ (enough-out n rows w lost work marks wide t .0) a rs e packed rows-below)
+      begun : steps n rows n (standOf n w rows 0 m₁) ≡ known n rs (listed n lost)
+      begun =
+          ap (steps n rows n) (begin-stands n rows w lost work m₁ (enough-out n rows w lost work marks wide t .0) a rs e packed rows-below)
           ∙ ap (λ (x : ℕ). steps n x n (begin n rs (listed n lost))) (sym e)
+
+      stands : Same (standOf n w rows top m₂) (known n rs (listed n lost))
+      stands = rw (← begun) (b .stands)
+
+      then : (q : ℕ) → Same (ascend rows (listed n lost) q (standOf n w rows top m₂)) (ascend rows (listed n lost) q (known n rs (listed n lost)))
+      then q = ascend-same rows (listed n lost) q (standOf n w rows top m₂) (known n rs (listed n lost)) stands
 
   pub all-marked : Marked n rows lost work marks m₃ marks′ (Made (record { known = top; all = all }))
   all-marked =

@@ -1,14 +1,13 @@
 -- When all columns are taken, as many rows have cleared one as the rank says. Assumes nothing.
-use mathlib.Core.Path.{_≡_, refl, sym, ap, ap₂, _∙_}
-use mathlib.Core.Bool.{Bool, true, false, not, cond, _&&_}
-use mathlib.Core.List.{List, []}
+use mathlib.Core.Path.{_≡_, refl, ap, ap₂, _∙_}
+use mathlib.Core.Bool.{Bool, true, false, cond, _&&_}
 use mathlib.Core.Option.{Option, none, some}
-use Prim.Native.Nat.{ℕ, zero, suc, _+_, _<_}
+use Prim.Native.Nat.{ℕ, zero, suc, _+_}
 use native.Mathlib.Omega.{arith}
 use lib.Dec.{ltb}
 use lib.ListN as lists
 use Rattle.binary.specs.Bits.{count, tally}
-use Rattle.binary.specs.Meaning.{Qubits, Row, Below, fixed?}
+use Rattle.binary.specs.Meaning.{Qubits, fixed?}
 use Rattle.binary.proofs.Bits.{bit, tally-same}
 use Rattle.binary.proofs.Rank.{rank-fixed}
 use Rattle.search.specs.Route.{Stand, length, some?, takeBy, clearing, take, shorter, shortest, stepBy, step, steps, ascend, begin, known, route}

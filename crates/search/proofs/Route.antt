@@ -15,7 +15,7 @@ use lib.ListN as lists
 use Rattle.binary.specs.Bits.{_⊕_, tally}
 use Rattle.binary.specs.Meaning.{Qubits, Row, Below, has, IsProduct, fixed?}
 use Rattle.binary.specs.Elimination.{Left}
-use Rattle.search.specs.Route.{Stand, length, some?, former, cleared, without, takeBy, clearing, take, shortest, stepBy, step, steps, ascend, begin, known}
+use Rattle.search.specs.Route.{Stand, length, some?, former, without, takeBy, clearing, take, shortest, stepBy, step, steps, ascend, begin, known}
 use Rattle.binary.proofs.Bits.{bit, never, and-out, not-out, &&-true, &&-false, tally-few, none-counted, below-out, counted-none, below-in, eqb-eq}
 use Rattle.binary.proofs.Weights.{tally-up}
 use Rattle.binary.proofs.Rows.{product-below}

@@ -11,19 +11,19 @@ use borrow.Author.Tests.{eq-eqb, ne-eqb, le-leb, lt-leb}
 use lib.Dec.{leb}
 use lib.ListN.{length, getD}
 use Rattle.lists.specs.Copied.{apart?, Copied}
-use Rattle.binary.specs.Bits.{_⊕_, tally}
+use Rattle.binary.specs.Bits.{_⊕_}
 use Rattle.binary.specs.Words.{bit}
 use Rattle.packing.specs.Packed.{cell}
 use Rattle.packing.proofs.Rows.{apart, other-cells}
-use Rattle.columns.specs.Columns.{untaken, rowsWith, Numbered}
-use Rattle.numbering.specs.Numbering.{Added, Adds}
+use Rattle.columns.specs.Columns.{rowsWith}
+use Rattle.numbering.specs.Numbering.{Stays, Joined, Added, Merged, NumberedBut, WhereInside}
 use Rattle.search.specs.Route.{former}
-use Rattle.search.specs.Search.{First, Later, Clears}
-use Rattle.binary.proofs.Bits.{⊕-false, ⊕-self, &&-false, never, and-in, or-left, not-out, tally-same, none-counted, below-out}
+use Rattle.search.specs.Search.{First, Leaves, Clears}
+use Rattle.binary.proofs.Bits.{⊕-false, ⊕-self, never, and-in, or-left, not-out, tally-same, none-counted, below-out}
 use Rattle.binary.proofs.WordBits.{order}
 use Rattle.binary.proofs.Weights.{tally-change, tally-up}
 use Rattle.numbering.proofs.Counting.{row-ends, number-same, inside-in}
-use Rattle.numbering.proofs.Numbered.{added-other, numbered-added, untaken-same}
+use Rattle.numbering.proofs.Numbered.{joined-other, numbered-added, but-added, but-merged, untaken-same}
 
 ----------------------------------------------------------------------
 -- Rows without the column
@@ -54,43 +54,55 @@ pub none-left : (w j rows q : ℕ) (m : List ℕ) → rowsWith m w j rows q ≡ 
 none-left w j rows q m e l a b =
     rw (le-leb j l a) at (not-out (leb j l && cell m w l q) (below-out rows (λ i. not (leb j i && cell m w i q)) (none-counted rows (λ i. leb j i && cell m w i q) e) l b))
 
+pub none-next : (w j rows q : ℕ) (m : List ℕ) → j < rows → rowsWith m w (j + 1) rows q ≡ 0 → First w (j + 1) rows q m rows
+none-next w j rows q m h e =
+    record { start = omega arith; within = le-refl rows; before = λ l a b. none-left w (j + 1) rows q m e l a b; found = λ l. absurd (omega arith) }
+
 ----------------------------------------------------------------------
 -- A row added
 
 -- The rows past the one that is added to.
-pub rest-same : (w rows q from to : ℕ) (m m′ : List ℕ) → w ≤ 16 → rows ≤ 512 → q < 64 * w → Added w from to m m′
+pub rest-same : {weight : ℕ} {down into : ℕ → Bool} (w rows q from to : ℕ) (m m′ : List ℕ) → w ≤ 16 → rows ≤ 512 → q < 64 * w → Joined weight down into w from to m m′
     → rowsWith m′ w (to + 1) rows q ≡ rowsWith m w (to + 1) rows q
 rest-same w rows q from to m m′ wide few h s =
     tally-same rows (λ i. leb (to + 1) i && cell m w i q) (λ i. leb (to + 1) i && cell m′ w i q) (λ i l. ⊎-elim
     (λ (a : i < to + 1). rw (lt-leb (to + 1) i a))
-    (λ (a : to + 1 ≤ i). ap (λ (b : Bool). leb (to + 1) i && b) (added-other w from to m m′ wide s i q (omega arith) (λ e. omega arith) h)) (order i (to + 1)))
+    (λ (a : to + 1 ≤ i). ap (λ (b : Bool). leb (to + 1) i && b) (joined-other w from to m m′ wide s i q (omega arith) (λ e. omega arith) h)) (order i (to + 1)))
 
-pub adds-out : (w from to : ℕ) (m m′ : List ℕ) → w ≤ 16 → from < 512 → to < 512 → 10240 ≤ length m → Adds w from to m m′ → Added w from to m m′
-adds-out w from to m m′ a b d e s = s .added (inside-in (length m) w from a b e) (inside-in (length m) w to a d e)
+pub made-out : (w from to : ℕ) (m m′ : List ℕ) (Change : Type 0) → w ≤ 16 → from < 512 → to < 512 → 10240 ≤ length m → WhereInside w from to m m′ Change → Change
+made-out w from to m m′ Change a b d e s = s .made (inside-in (length m) w from a b e) (inside-in (length m) w to a d e)
 
 ----------------------------------------------------------------------
--- A row added to the later rows
+-- A row that is counted no more, added to the later rows
 
-module _ (w rows i q : ℕ) where
-  pub later-none : (m : List ℕ) → Later w rows i (i + 1) q m m
+-- Row i is added to each row past row `from` that has column q, up to row n; the rows from n on stay too.
+pub record Later (w rows i from n q : ℕ) (m m′ : List ℕ) : Type 0 where
+  pub long : length m′ ≡ length m
+  pub added : (j c : ℕ) → from < j → j < n → c < 64 * w → cell m′ w j c ≡ cell m w j c ⊕ (cell m w j q && cell m w i c)
+  pub kept : (j c : ℕ) → (j ≤ from) ⊎ (n ≤ j) → j < rows → c < 64 * w → cell m′ w j c ≡ cell m w j c
+  pub stays : Stays m m′
+  pub numbered : (top : ℕ) → top ≤ i → NumberedBut w top rows i m → NumberedBut w top rows i m′
+
+module _ (w rows i from q : ℕ) (low : i ≤ from) where
+  pub later-none : (m : List ℕ) → Later w rows i from (from + 1) q m m
   later-none m =
       record { long = refl; added = λ j c l h. absurd (omega arith); kept = λ j c s h l. refl; stays = λ k h. refl; numbered = λ top l n. n }
 
   -- One more row, whose cells are known.
-  module _ (j : ℕ) (m₀ m m′ : List ℕ) (room : q < 64 * w) (after : i < j) (within : j < rows) (s : Later w rows i j q m₀ m) where
-    later-more : length m′ ≡ length m → ((k : ℕ) → 8448 ≤ k → getD m′ k 0 ≡ getD m k 0) → ((top : ℕ) → top ≤ i → Numbered w top rows m → Numbered w top rows m′)
+  module _ (j : ℕ) (m₀ m m′ : List ℕ) (room : q < 64 * w) (after : from < j) (within : j < rows) (s : Later w rows i from j q m₀ m) where
+    later-more : length m′ ≡ length m → Stays m m′ → ((top : ℕ) → top ≤ i → NumberedBut w top rows i m → NumberedBut w top rows i m′)
         → ((c : ℕ) → c < 64 * w → cell m′ w j c ≡ cell m w j c ⊕ (cell m w j q && cell m w i c))
-        → ((l c : ℕ) → l < rows → (l ≡ j → ⊥) → c < 64 * w → cell m′ w l c ≡ cell m w l c) → Later w rows i (j + 1) q m₀ m′
+        → ((l c : ℕ) → l < rows → (l ≡ j → ⊥) → c < 64 * w → cell m′ w l c ≡ cell m w l c) → Later w rows i from (j + 1) q m₀ m′
     later-more long stays numbered here other =
         record {
           long = long ∙ s .long;
           added = λ l c a b h. ⊎-elim
               (λ (g : l < j). other l c (omega arith) (λ e. omega arith) h ∙ s .added l c a g h)
               (λ (g : j ≤ l). let e : l ≡ j = omega arith in
-              rw e (here c h ∙ ap₂ _⊕_ (old c h) (ap₂ _&&_ (old q room) (s .kept i c (inl (le-refl i)) (omega arith) h))))
+              rw e (here c h ∙ ap₂ _⊕_ (old c h) (ap₂ _&&_ (old q room) (s .kept i c (inl low) (omega arith) h))))
               (order l j);
           kept = λ l c b r h.
-              other l c r (λ e. ⊎-elim (λ (p : l ≤ i). omega arith) (λ (p : j + 1 ≤ l). omega arith) b) h
+              other l c r (λ e. ⊎-elim (λ (p : l ≤ from). omega arith) (λ (p : j + 1 ≤ l). omega arith) b) h
               ∙ s .kept l c (⊎-elim (λ p. inl p) (λ (p : j + 1 ≤ l). inr (omega arith)) b) r h;
           stays = λ k h. stays k h ∙ s .stays k h;
           numbered = λ top l n. numbered top l (s .numbered top l n);
@@ -99,13 +111,13 @@ module _ (w rows i q : ℕ) where
         old : (c : ℕ) → c < 64 * w → cell m w j c ≡ cell m₀ w j c
         old c h = s .kept j c (inr (le-refl j)) within h
 
-  later-skipped : (j : ℕ) (m₀ m : List ℕ) → q < 64 * w → i < j → j < rows → Later w rows i j q m₀ m → cell m w j q ≡ false → Later w rows i (j + 1) q m₀ m
+  later-skipped : (j : ℕ) (m₀ m : List ℕ) → q < 64 * w → from < j → j < rows → Later w rows i from j q m₀ m → cell m w j q ≡ false → Later w rows i from (j + 1) q m₀ m
   later-skipped j m₀ m room after within s z =
       later-more j m₀ m m room after within s refl (λ k h. refl) (λ top l n. n) (λ c h. rw z (sym (⊕-false (cell m w j c)))) (λ l c r n h. refl)
 
   -- Rows without the column are passed over.
-  later-passed : (j d : ℕ) (m₀ m : List ℕ) → q < 64 * w → i < j → j + d ≤ rows → Later w rows i j q m₀ m
-      → ((l : ℕ) → j ≤ l → l < j + d → cell m w l q ≡ false) → Later w rows i (j + d) q m₀ m
+  later-passed : (j d : ℕ) (m₀ m : List ℕ) → q < 64 * w → from < j → j + d ≤ rows → Later w rows i from j q m₀ m
+      → ((l : ℕ) → j ≤ l → l < j + d → cell m w l q ≡ false) → Later w rows i from (j + d) q m₀ m
   later-passed j zero m₀ m room after within s f = let e : j + 0 ≡ j = omega arith in rw e s
   later-passed j (suc d) m₀ m room after within s f =
       let e : j + 1 + d ≡ j + suc d = omega arith in
@@ -113,25 +125,65 @@ module _ (w rows i q : ℕ) where
       (λ l a b. f l (omega arith) (omega arith)))
 
   -- Up to the next row with the column.
-  pub later-to : (j : ℕ) (m₀ m : List ℕ) (r : ℕ) → q < 64 * w → i < j → Later w rows i j q m₀ m → First w j rows q m r → Later w rows i r q m₀ m
+  pub later-to : (j : ℕ) (m₀ m : List ℕ) (r : ℕ) → q < 64 * w → from < j → Later w rows i from j q m₀ m → First w j rows q m r → Later w rows i from r q m₀ m
   later-to j m₀ m r room after s f =
       let g = f .start in
       let h = f .within in
       let e : j + (r - j) ≡ r = omega arith in
       rw (← e) (later-passed j (r - j) m₀ m room after (omega arith) s (λ l a b. f .before l a (omega arith)))
 
-  -- No later row has the column.
-  pub later-all : (j : ℕ) (m₀ m : List ℕ) → q < 64 * w → i ≤ j → j < rows → Later w rows i (j + 1) q m₀ m → rowsWith m w (j + 1) rows q ≡ 0
-      → Later w rows i rows q m₀ m
-  later-all j m₀ m room after within s z =
-      let e : j + 1 + (rows - (j + 1)) ≡ rows = omega arith in
-      rw e at (later-passed (j + 1) (rows - (j + 1)) m₀ m room (omega arith) (omega arith) s (λ l a b. none-left w (j + 1) rows q m z l a (omega arith)))
+  -- Row r, the next one.
+  pub later-added : (j : ℕ) (m₀ m m′ : List ℕ) (r : ℕ) → q < 64 * w → from < j → w ≤ 16 → rows ≤ 512 → Later w rows i from j q m₀ m
+      → First w j rows q m r → r < rows → Added w i r m m′ → Later w rows i from (r + 1) q m₀ m′
+  later-added j m₀ m m′ r room after wide few s f h a =
+      let past = f .start in
+      later-more r m₀ m m′ room (omega arith) h (later-to j m₀ m r room after s f) (a .long) (a .stays)
+      (λ top l. but-added w top rows i r m m′ wide few (omega arith) h l (omega arith) (λ e. omega arith) a)
+      (λ c b. rw (f .found h) (a .cells c b)) (λ l c b. joined-other w i r m m′ wide a l c (omega arith))
 
-  pub later-added : (j : ℕ) (m₀ m m′ : List ℕ) → q < 64 * w → i < j → j < rows → w ≤ 16 → rows ≤ 512 → Later w rows i j q m₀ m
-      → cell m w j q ≡ true → Added w i j m m′ → Later w rows i (j + 1) q m₀ m′
-  later-added j m₀ m m′ room after within wide few s o a =
-      later-more j m₀ m m′ room after within s (a .long) (a .stays) (λ top l. numbered-added w top rows i j m m′ wide few (omega arith) within a)
-      (λ c h. rw o (a .cells c h)) (λ l c r. added-other w i j m m′ wide a l c (omega arith))
+----------------------------------------------------------------------
+-- A row leaves
+
+-- Row r is the first later row with the column.
+module _ (w rows i q : ℕ) (m m₁ : List ℕ) (room : q < 64 * w) (wide : w ≤ 16) (few : rows ≤ 512) (within : i < rows) (r : ℕ) (f : First w (i + 1) rows q m r) where
+  -- There is none: row i is added to itself.
+  pub leaves-alone : r ≡ rows → Added w i i m m₁ → Leaves w rows i q m m₁
+  leaves-alone e a =
+      record {
+        long = a .long;
+        added = λ j c l h b. other j c h (λ d. omega arith) b ∙ rw (f .before j (omega arith) (omega arith)) (sym (⊕-false (cell m w j c)));
+        kept = λ j c l h b. other j c h (λ d. omega arith) b;
+        stays = a .stays;
+        numbered = λ top l n c h u. let z = numbered-added w top rows i i m m₁ wide few l within a n c h u in
+            rw (a .cells c h ∙ ⊕-self (cell m w i c)) (omega (arith, z));
+      }
+    where
+      other : (j c : ℕ) → j < rows → (j ≡ i → ⊥) → c < 64 * w → cell m₁ w j c ≡ cell m w j c
+      other j c h = joined-other w i i m m₁ wide a j c (omega arith)
+
+  -- It counts row i out, and the rows past it follow.
+  pub leaves-merged : (m₂ : List ℕ) → r < rows → Merged w i r m m₁ → Later w rows i r rows q m₁ m₂ → Leaves w rows i q m m₂
+  leaves-merged m₂ h a s =
+      let past = f .start in
+      record {
+        long = s .long ∙ a .long;
+        added = λ j c l b g. at j c l b g (ℕ-discrete j r);
+        kept = λ j c l b g. s .kept j c (inl (omega arith)) b g ∙ other j c b (λ e. omega arith) g;
+        stays = λ k l. s .stays k l ∙ a .stays k l;
+        numbered = λ top l n. s .numbered top l (but-merged w top rows i r m m₁ wide few (omega arith) h l within (λ e. omega arith) a n);
+      }
+    where
+      other : (j c : ℕ) → j < rows → (j ≡ r → ⊥) → c < 64 * w → cell m₁ w j c ≡ cell m w j c
+      other j c b = joined-other w i r m m₁ wide a j c (omega arith)
+
+      at : (j c : ℕ) → i < j → j < rows → c < 64 * w → Dec (j ≡ r) → cell m₂ w j c ≡ cell m w j c ⊕ (cell m w j q && cell m w i c)
+      at j c l b g (yes e) = rw (e, f .found h) (s .kept r c (inl (le-refl r)) h g ∙ a .cells c g)
+      at j c l b g (no e) =
+          let past = f .start in
+          ⊎-elim
+          (λ (d : j < r). s .kept j c (inl (omega arith)) b g ∙ other j c b e g ∙ rw (f .before j (omega arith) d) (sym (⊕-false (cell m w j c))))
+          (λ (d : r ≤ j). s .added j c (omega arith) b g ∙ ap₂ _⊕_ (other j c b e g) (ap₂ _&&_ (other j q b e room) (other i c within (λ x. omega arith) g)))
+          (order j r)
 
 ----------------------------------------------------------------------
 -- The column cleared
@@ -147,29 +199,32 @@ clears-none w top rows q i m f e =
       blank = λ _ j l h. f .before j l (omega arith);
     }
 
--- Row i was added to the later rows, and then to itself.
-module _ (w top rows q i : ℕ) (m m₁ m₂ : List ℕ) (wide : w ≤ 16) (few : rows ≤ 512) (room : q < 64 * w) (f : First w top rows q m i) (within : i < rows)
-    (s : Later w rows i rows q m m₁) (e : Added w i i m₁ m₂) where
+-- Without row top.
+module _ (w top rows : ℕ) (m : List ℕ) (within : top < rows) (c : ℕ) where
+  past-top : rowsWith m w (top + 1) rows c + cond (cell m w top c) 1 0 ≡ rowsWith m w top rows c
+  past-top =
+      let z = tally-change rows top (λ j. leb top j && cell m w j c) (λ j. leb (top + 1) j && cell m w j c) within (λ j d l. ap (_&& cell m w j c) (later j d)) in
+      let y = rw (le-leb top top (le-refl top), lt-leb (top + 1) top (omega arith)) at z in
+      omega (arith, y)
+    where
+      later : (j : ℕ) → (j ≡ top → ⊥) → leb (top + 1) j ≡ leb top j
+      later j d = ⊎-elim (λ (l : j < top). lt-leb (top + 1) j (omega arith) ∙ sym (lt-leb top j l))
+          (λ (l : top ≤ j). le-leb (top + 1) j (omega arith) ∙ sym (le-leb top j l)) (order j top)
+
+module _ (w top rows q i : ℕ) (m m₁ : List ℕ) (wide : w ≤ 16) (few : rows ≤ 512) (f : First w top rows q m i) (within : i < rows) (s : Leaves w rows i q m m₁) where
   -- A row before row i does not have the column.
   before : (j c : ℕ) → top ≤ j → j < i → cell m w j c ≡ cell m w j c ⊕ (cell m w j q && cell m w i c)
   before j c l h = rw (f .before j l h) (sym (⊕-false (cell m w j c)))
 
-  stays : (j c : ℕ) → top ≤ j → j < rows → (j ≡ i → ⊥) → c < 64 * w → cell m₂ w j c ≡ cell m w j c ⊕ (cell m w j q && cell m w i c)
+  stays : (j c : ℕ) → top ≤ j → j < rows → (j ≡ i → ⊥) → c < 64 * w → cell m₁ w j c ≡ cell m w j c ⊕ (cell m w j q && cell m w i c)
   stays j c l b n h =
-      added-other w i i m₁ m₂ wide e j c (omega arith) n h
-      ∙ ⊎-elim (λ (g : j < i). s .kept j c (inl (omega arith)) b h ∙ before j c l g) (λ (g : i ≤ j). s .added j c (omega arith) b h) (order j i)
+      ⊎-elim (λ (g : j < i). s .kept j c g b h ∙ before j c l g) (λ (g : i ≤ j). s .added j c (omega arith) b h) (order j i)
 
-  emptied : (c : ℕ) → c < 64 * w → cell m₂ w i c ≡ false
-  emptied c h = e .cells c h ∙ ⊕-self (cell m₁ w i c)
-
-  numbers : Numbered w top rows m → Numbered w top rows m₂
-  numbers n = numbered-added w top rows i i m₁ m₂ wide few (f .start) within e (s .numbered top (f .start) n)
-
-  pub clears-top : i ≡ top → Clears w top rows q m m₂ true
+  pub clears-top : i ≡ top → Clears w top rows q m m₁ true
   clears-top d =
       record {
-        long = e .long ∙ s .long;
-        stays = λ k h. e .stays k h ∙ s .stays k h;
+        long = s .long;
+        stays = s .stays;
         cleared = λ _. (
           i,
           record {
@@ -180,63 +235,48 @@ module _ (w top rows q i : ℕ) (m m₁ m₂ : List ℕ) (wide : w ≤ 16) (few 
             cells = λ j c l b h. rw (ne-eqb j i (λ g. omega arith)) (stays j c (omega arith) b (λ g. omega arith) h);
           },
         );
-        numbered = λ _ n c h u. numbers n c h u ∙ tally-same rows (λ j. leb (top + 1) j && cell m₂ w j c) (λ j. leb top j && cell m₂ w j c) (λ j l. one-less c h j (ℕ-discrete j top));
+        numbered = λ _ n c h u. let z = s .numbered top (f .start) n c h u in
+            let y = past-top w top rows m₁ (omega arith) c in
+            omega (arith, rw d at z, y);
         same = λ t. never refl t;
         blank = λ t. never refl t;
       }
-    where
-      one-less : (c : ℕ) → c < 64 * w → (j : ℕ) → Dec (j ≡ top) → (leb top j && cell m₂ w j c) ≡ (leb (top + 1) j && cell m₂ w j c)
-      one-less c h j (yes x) = rw (x, ← d, emptied c h) (&&-false (leb i i) ∙ sym (&&-false (leb (i + 1) i)))
-      one-less c h j (no x) = ap (_&& cell m₂ w j c) (⊎-elim
-          (λ (l : j < top). lt-leb top j l ∙ sym (lt-leb (top + 1) j (omega arith)))
-          (λ (l : top ≤ j). le-leb top j l ∙ sym (le-leb (top + 1) j (omega arith))) (order j top))
 
-  module _ (m₃ : List ℕ) (n : i ≡ top → ⊥) (long : 10240 ≤ length m) (r : Copied (top * w) (i * w) w m₂ m₃) where
+  module _ (m₃ : List ℕ) (n : i ≡ top → ⊥) (long : 10240 ≤ length m) (r : Copied (top * w) (i * w) w m₁ m₃) where
     below : top < i
     below = omega (arith, f .start)
 
-    apart-rows : apart? (length m₂) (top * w) (i * w) w ≡ true
+    apart-rows : apart? (length m₁) (top * w) (i * w) w ≡ true
     unfolding apart?
     apart-rows =
         let a = apart w top i below in
         let b = row-ends w i wide (omega arith) in
-        let d = e .long ∙ s .long in
-        and-in (and-in (le-leb (top * w + w) (length m₂) (omega (arith, a, b, d))) (le-leb (i * w + w) (length m₂) (omega (arith, b, d)))) (or-left _ (le-leb (top * w + w) (i * w) a))
+        let d = s .long in
+        and-in (and-in (le-leb (top * w + w) (length m₁) (omega (arith, a, b, d))) (le-leb (i * w + w) (length m₁) (omega (arith, b, d)))) (or-left _ (le-leb (top * w + w) (i * w) a))
 
-    moved : (c : ℕ) → c < 64 * w → cell m₃ w i c ≡ cell m₂ w top c
+    moved : (c : ℕ) → c < 64 * w → cell m₃ w i c ≡ cell m₁ w top c
     unfolding cell
     moved c h = ap (λ (x : ℕ). bit x (c % 64)) (r .copied apart-rows (c / 64) (omega arith))
 
-    other : (j c : ℕ) → (j ≡ i → ⊥) → c < 64 * w → cell m₃ w j c ≡ cell m₂ w j c
-    other = other-cells w i m₂ m₃ (r .stays apart-rows)
+    other : (j c : ℕ) → (j ≡ i → ⊥) → c < 64 * w → cell m₃ w j c ≡ cell m₁ w j c
+    other = other-cells w i m₁ m₃ (r .stays apart-rows)
 
-    past : (k : ℕ) → 8192 ≤ k → getD m₃ k 0 ≡ getD m₂ k 0
+    past : (k : ℕ) → 8192 ≤ k → getD m₃ k 0 ≡ getD m₁ k 0
     past k h = r .stays apart-rows k (inr (omega (arith, row-ends w i wide (omega arith))))
 
-    -- As many rows have a column: row top stands at place i.
-    as-many : (c : ℕ) → c < 64 * w → rowsWith m₃ w (top + 1) rows c ≡ rowsWith m₂ w top rows c
+    -- Row top stands at place i: as many rows have a column but for row i.
+    as-many : (c : ℕ) → c < 64 * w → rowsWith m₃ w (top + 1) rows c + cond (cell m₁ w i c) 1 0 ≡ rowsWith m₁ w top rows c
     as-many c h =
-        let a = tally-change rows i (at top m₂) (at top m₃) within (λ j d l. ap (λ (b : Bool). leb top j && b) (other j c d h)) in
-        let b = tally-change rows top (at top m₃) (at (top + 1) m₃) (omega arith) (λ j d l. ap (_&& cell m₃ w j c) (later j d)) in
-        both (tally rows (at top m₂)) (tally rows (at top m₃)) (tally rows (at (top + 1) m₃)) (cell m₂ w top c)
-        (rw (le-leb top i (f .start), emptied c h, moved c h) at a)
-        (rw (le-leb top top (le-refl top), lt-leb (top + 1) top (omega arith), other top c (λ d. n (sym d)) h) at b)
-      where
-        at : ℕ → List ℕ → ℕ → Bool
-        at t l j = leb t j && cell l w j c
-
-        later : (j : ℕ) → (j ≡ top → ⊥) → leb (top + 1) j ≡ leb top j
-        later j d = ⊎-elim (λ (l : j < top). lt-leb (top + 1) j (omega arith) ∙ sym (lt-leb top j l))
-            (λ (l : top ≤ j). le-leb (top + 1) j (omega arith) ∙ sym (le-leb top j l)) (order j top)
-
-        both : (x y z : ℕ) (t : Bool) → y + 0 ≡ x + cond t 1 0 → z + cond t 1 0 ≡ y + 0 → z ≡ x
-        both x y z t a b = omega (arith, a, b)
+        let a = tally-change rows i (λ j. leb top j && cell m₁ w j c) (λ j. leb top j && cell m₃ w j c) within (λ j d l. ap (λ (b : Bool). leb top j && b) (other j c d h)) in
+        let b = rw (le-leb top i (f .start), moved c h) at a in
+        let d = rw (other top c (λ e. n (sym e)) h) at (past-top w top rows m₃ (omega arith) c) in
+        omega (arith, b, d)
 
     pub clears-moved : Clears w top rows q m m₃ true
     clears-moved =
         record {
-          long = r .long ∙ e .long ∙ s .long;
-          stays = λ k h. past k (omega arith) ∙ e .stays k h ∙ s .stays k h;
+          long = r .long ∙ s .long;
+          stays = λ k h. past k (omega arith) ∙ s .stays k h;
           cleared = λ _. (
             i,
             record {
@@ -247,8 +287,10 @@ module _ (w top rows q i : ℕ) (m m₁ m₂ : List ℕ) (wide : w ≤ 16) (few 
               cells = λ j c l b h. cells j c l b h (ℕ-discrete j i);
             },
           );
-          numbered = λ _ x c h u. number-same m₂ m₃ c (λ p l. past (8192 + 16 * (c / 64) + p) (omega arith))
-              ∙ numbers x c h (sym (untaken-same m₂ m₃ (λ k l. past k (omega arith)) c) ∙ u) ∙ sym (as-many c h);
+          numbered = λ _ x c h u. let a = number-same m₁ m₃ c (λ p l. past (8192 + 16 * (c / 64) + p) (omega arith)) in
+              let b = s .numbered top (f .start) x c h (sym (untaken-same m₁ m₃ (λ k l. past k (omega arith)) c) ∙ u) in
+              let d = as-many c h in
+              omega (arith, a, b, d);
           same = λ t. never refl t;
           blank = λ t. never refl t;
         }

@@ -1,6 +1,6 @@
 -- How the search stands, by the work list: what taking a column does to it. Assumes nothing.
 use mathlib.Core.Path.{_≡_, refl, sym, ap, ap₂, _∙_, subst, fun-ext}
-use mathlib.Core.Bool.{Bool, true, false, not, _&&_}
+use mathlib.Core.Bool.{Bool, true, false, not, cond, _&&_}
 use mathlib.Core.Logic.{_⊎_, inl, inr, ⊎-elim}
 use mathlib.Core.List.{List, _∷_}
 use mathlib.Core.Option.{Option, none, some}
@@ -17,7 +17,7 @@ use Rattle.binary.specs.Meaning.{Qubits}
 use Rattle.binary.specs.Words.{bit as word-bit}
 use Rattle.packing.specs.Packed.{cell}
 use Rattle.columns.specs.Columns.{untaken, Numbered}
-use Rattle.search.specs.Route.{Stand, first, some?, former, cleared, without, takeBy, clearing, take}
+use Rattle.search.specs.Route.{Stand, first, some?, former, cleared, without, takeBy, clearing, take, ascend}
 use Rattle.search.specs.Marked.{columnsOf}
 use Rattle.search.specs.Search.{Column, Clears, Takes, rowOf, standOf, Same}
 use Rattle.binary.proofs.Bits.{bit, &&-false, tally-same}
@@ -63,7 +63,7 @@ module _ (n w rows top : ℕ) (m : List ℕ) where
   pub row-none : (i q : ℕ) → rows ≤ i → rowOf n w rows top m i q ≡ false
   row-none i q h = rw (le-ltb i rows h) (ap (_&& (ltb q n && cell m w i q)) (&&-false (leb top i)))
 
-  row-left : (i q : ℕ) → i < top → rowOf n w rows top m i q ≡ false
+  pub row-left : (i q : ℕ) → i < top → rowOf n w rows top m i q ≡ false
   row-left i q h = rw (lt-leb top i h)
 
 pub row-same : (n w rows top : ℕ) (m m′ : List ℕ) → n ≤ 64 * w → w ≤ 16 → rows ≤ 512 → ((k : ℕ) → k < 8192 → getD m′ k 0 ≡ getD m k 0)
@@ -150,8 +150,20 @@ take-same rows q s t e =
     by none = e
     by (some i) = (ap (q ∷_) (e .0), ap₂ (λ (x : List ℕ) (y : ℕ → Qubits). cleared (length x) i q y) (e .0) (e .1))
 
+pub same-eq : (s t : Stand) → s ≡ t → Same s t
+same-eq s t e = (ap (λ (x : Stand). x .columns) e, ap (λ (x : Stand). x .row) e)
+
 pub same-trans : (s t v : Stand) → Same s t → Same t v → Same s v
 same-trans s t v a b = (a .0 ∙ b .0, a .1 ∙ b .1)
+
+-- So does taking lost ones.
+pub take-if-same : (rows q : ℕ) (s t : Stand) (b : Bool) → Same s t → Same (cond b (take rows q s) s) (cond b (take rows q t) t)
+take-if-same rows q s t true e = take-same rows q s t e
+take-if-same rows q s t false e = e
+
+pub ascend-same : (rows : ℕ) (lost : Qubits) (q : ℕ) (s t : Stand) → Same s t → Same (ascend rows lost q s) (ascend rows lost q t)
+ascend-same rows lost zero s t e = e
+ascend-same rows lost (suc q) s t e = take-if-same rows q (ascend rows lost q s) (ascend rows lost q t) (lost q) (ascend-same rows lost q s t e)
 
 pub take-untaken : (rows q : ℕ) (s : Stand) → take rows q s .untaken ≡ without q (s .untaken)
 take-untaken rows q s = by (clearing rows q s)

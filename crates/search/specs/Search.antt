@@ -1,11 +1,12 @@
 -- What the private functions ask, and what they do: to rows, to the stand of the search, to the marks.
 --   ColumnIn   column q, and the rows from top on, lie in the work list
 --   First      the first row from top on with column q
---   Later      row i is added to each later row that has column q
+--   Leaves     row i is added to each later row that has column q, and is counted no more
 --   Column     row i clears column q: it is added to each other row that has it, and leaves; row top takes its place
 --   Clears     the answer says whether a row cleared the column
 --   rowOf      the row left at a place
 --   standOf    how the search stands, by the work list
+--   Same       two stands but for the untaken columns
 --   Sound      the untaken columns are columns, and the number of each is how many rows left have it
 --   Knowns     the columns that are not lost are taken
 --   Losts      the lost columns up to q are taken; those that a row clears are marked
@@ -21,7 +22,7 @@ use Rattle.binary.specs.Meaning.{Qubits}
 use Rattle.binary.specs.Words.{listed}
 use Rattle.packing.specs.Packed.{cell}
 use Rattle.columns.specs.Columns.{untaken, Numbered}
-use Rattle.numbering.specs.Numbering.{Stays}
+use Rattle.numbering.specs.Numbering.{Stays, NumberedBut}
 use Rattle.search.specs.Route.{Stand, some?, former, clearing, take, steps, ascend}
 use Rattle.search.specs.Marked.{columnsOf}
 
@@ -44,13 +45,13 @@ pub record First (w top rows q : ℕ) (m : List ℕ) (r : ℕ) : Type 0 where
   pub before : (i : ℕ) → top ≤ i → i < r → cell m w i q ≡ false
   pub found : r < rows → cell m w r q ≡ true
 
--- Up to row n; the rows from n on stay too.
-pub record Later (w rows i n q : ℕ) (m m′ : List ℕ) : Type 0 where
+-- What it has itself then is not told.
+pub record Leaves (w rows i q : ℕ) (m m′ : List ℕ) : Type 0 where
   pub long : length m′ ≡ length m
-  pub added : (j c : ℕ) → i < j → j < n → c < 64 * w → cell m′ w j c ≡ cell m w j c ⊕ (cell m w j q && cell m w i c)
-  pub kept : (j c : ℕ) → (j ≤ i) ⊎ (n ≤ j) → j < rows → c < 64 * w → cell m′ w j c ≡ cell m w j c
+  pub added : (j c : ℕ) → i < j → j < rows → c < 64 * w → cell m′ w j c ≡ cell m w j c ⊕ (cell m w j q && cell m w i c)
+  pub kept : (j c : ℕ) → j < i → j < rows → c < 64 * w → cell m′ w j c ≡ cell m w j c
   pub stays : Stays m m′
-  pub numbered : (top : ℕ) → top ≤ i → Numbered w top rows m → Numbered w top rows m′
+  pub numbered : (top : ℕ) → top ≤ i → Numbered w top rows m → NumberedBut w top rows i m′
 
 pub record Column (w top rows q : ℕ) (m m′ : List ℕ) (i : ℕ) : Type 0 where
   pub start : top ≤ i
@@ -95,18 +96,18 @@ standOf n w rows top m = record { untaken = λ q. ltb q n && untaken m q; column
 abbrev pub Sound : ℕ → ℕ → ℕ → ℕ → List ℕ → Type 0
 Sound n w rows top m = ((c : ℕ) → c < 64 * w → untaken m c ≡ true → c < n) × Numbered w top rows m
 
+-- The columns that a row cleared, and the rows left.
+abbrev pub Same : Stand → Stand → Type 0
+Same s t = (s .columns ≡ t .columns) × (s .row ≡ t .row)
+
 -- r is how many rows have cleared one.
 pub record Knowns (n w rows : ℕ) (m : List ℕ) (r : ℕ) (m′ : List ℕ) : Type 0 where
   pub long : length m′ ≡ length m
   pub within : r ≤ rows
-  pub stands : standOf n w rows r m′ ≡ steps n rows n (standOf n w rows 0 m)
+  pub stands : Same (standOf n w rows r m′) (steps n rows n (standOf n w rows 0 m))
 
 ----------------------------------------------------------------------
 -- The lost columns
-
--- The columns that a row cleared, and the rows left.
-abbrev pub Same : Stand → Stand → Type 0
-Same s t = (s .columns ≡ t .columns) × (s .row ≡ t .row)
 
 -- Column q, from where `top` rows have cleared one; r is how many have then.
 pub record LostTaken (n w rows : ℕ) (lost : List ℕ) (q top : ℕ) (m marks : List ℕ) (r : ℕ) (m′ marks′ : List ℕ) : Type 0 where

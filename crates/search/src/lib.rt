@@ -7,7 +7,7 @@ ghost use Rattle.binary.specs.Words.{bit};
 ghost use Rattle.packing.specs.Packing.{RowIn};
 ghost use Rattle.columns.specs.Columns.{rowsWith};
 ghost use Rattle.search.specs.Marked.{enough, Marked};
-ghost use Rattle.search.specs.Search.{ColumnIn, ColumnsIn, First, Later, Clears, Takes, Sound, Knowns, LostTaken, Losts};
+ghost use Rattle.search.specs.Search.{ColumnIn, ColumnsIn, First, Leaves, Clears, Takes, Sound, Knowns, LostTaken, Losts};
 
 // Where the work list has the columns that a row cleared, in their order.
 const ORDER: usize = 9216;
@@ -48,15 +48,33 @@ fn find_row(m: &[u64], w: usize, top: usize, rows: usize, q: usize) -> usize
     i
 }
 
-// Row `i` is added to each later row that has column `q`, of which there are at most `most`.
-fn add_later(m: &mut [u64], w: usize, i: usize, rows: usize, q: usize, most: usize)
-    requires { ⌜ (i < rows) × ColumnIn w i rows q (now m) × (rowsWith (now m) w (i + 1) rows q ≤ most) ⌝ }
-    ensures { λ _. ⌜ Later w rows i rows q (now (m .entry)) (now (m .exit)) ⌝ }
+// The first row past row `j` that has column `q`, or `rows` where there is none. At most `left` have it: past the last one no row is looked at.
+fn next_row(m: &[u64], w: usize, j: usize, rows: usize, q: usize, left: usize) -> usize
+    requires { ⌜ (j < rows) × ColumnIn w j rows q (now m) × (rowsWith (now m) w (j + 1) rows q ≤ left) ⌝ }
+    ensures { λ r. ⌜ First w (j + 1) rows q (now (m .entry)) r ⌝ }
 {
-    let mut left = most;
-    let mut j = i;
-    while left > 0 {
-        j = find_row(m, w, j + 1, rows, q);
+    if left == 0 {
+        return rows;
+    }
+    find_row(m, w, j + 1, rows, q)
+}
+
+// Row `i` is added to each later row that has column `q`, of which there are at most `most`, and is counted no more: it is merged into the first of them, or
+// emptied, where there is none.
+fn leave(m: &mut [u64], w: usize, i: usize, rows: usize, q: usize, most: usize)
+    requires { ⌜ (i < rows) × ColumnIn w i rows q (now m) × (rowsWith (now m) w (i + 1) rows q ≤ most) ⌝ }
+    ensures { λ _. ⌜ Leaves w rows i q (now (m .entry)) (now (m .exit)) ⌝ }
+{
+    let first = next_row(m, w, i, rows, q, most);
+    if first == rows {
+        numbering::add_row(m, w, i, i);
+        return;
+    }
+    numbering::merge_row(m, w, i, first);
+    let mut left = most - 1;
+    let mut j = first;
+    loop {
+        j = next_row(m, w, j, rows, q, left);
         if j == rows {
             return;
         }
@@ -75,8 +93,7 @@ fn clear_column(m: &mut [u64], w: usize, top: usize, rows: usize, q: usize, most
     if i == rows {
         return false;
     }
-    add_later(m, w, i, rows, q, most - 1);
-    numbering::add_row(m, w, i, i);
+    leave(m, w, i, rows, q, most - 1);
     if i == top {
         return true;
     }
@@ -96,7 +113,7 @@ fn take_column(work: &mut [u64], w: usize, top: usize, rows: usize, q: usize, mo
     top + 1
 }
 
-// The columns that are not lost are taken, the shortest first. Returns how many rows have cleared one.
+// The columns that are not lost are taken, the shortest first, until no row is left. Returns how many rows have cleared one.
 fn take_known(work: &mut [u64], n: usize, w: usize, rows: usize) -> usize
     requires { ⌜ ColumnsIn n w rows (now work) × Sound n w rows 0 (now work) ⌝ }
     ensures { λ r. ⌜ Knowns n w rows (now (work .entry)) r (now (work .exit)) ⌝ }
@@ -110,6 +127,9 @@ fn take_known(work: &mut [u64], n: usize, w: usize, rows: usize) -> usize
         }
         if next.rows > 0 {
             top = take_column(work, w, top, rows, next.column, next.rows);
+            if top == rows {
+                return top;
+            }
         }
         k += 1;
     }

@@ -1,5 +1,5 @@
 -- `numbering::add_row` meets its contract. Assumes nothing.
-use Rattle.numbering.proofs.Counting.{rows-in, adds-yes, adds-no}
+use Rattle.numbering.proofs.Counting.{rows-in, where-inside, not-inside}
 use borrow.Author.Needs.{needs}
 use Rattle.numbering.proofs.add_row.Statement.{statement}
 use Rattle.numbering.proofs.add_row.Tie as tie
@@ -22,10 +22,10 @@ same-length c = search needs
 returns : tie.Need-returns
 returns c =
     let f = c .before .before .before .before .before in
-    adds-yes _ _ _ _ _ _ (f .before .lies-in .ensures) (f .lies-in2 .ensures) _ (c .before .before .before .before .if1 .taken) (c .before .before .add-words .ensures)
+    where-inside _ _ _ _ _ _ (f .before .lies-in .ensures) (f .lies-in2 .ensures) _ _ (c .before .before .before .before .if1 .taken) (c .before .before .add-words .ensures)
 
 returns-2 : tie.Need-returns-2
-returns-2 c = adds-no _ _ _ _ _ _ (c .before .before .lies-in .ensures) (c .before .lies-in2 .ensures) (c .if1 .left)
+returns-2 c = not-inside _ _ _ _ _ _ (c .before .before .lies-in .ensures) (c .before .lies-in2 .ensures) _ (c .if1 .left)
 
 pub add-row-spec : {M : Type 1} → statement M
 add-row-spec =

@@ -4,7 +4,7 @@ use Prim.Native.Nat.{_-_, _≤_}
 use native.Mathlib.Omega.{arith}
 use lib.ListN.{length, length-set}
 use borrow.Author.Needs.{needs}
-use Rattle.numbering.proofs.Counting.{Adding, adding-none, adding-more, added}
+use Rattle.numbering.proofs.Counting.{Adding, joining-none, adding-more, joined}
 use Rattle.numbering.proofs.add_words.Statement.{statement}
 use Rattle.numbering.proofs.add_words.Tie as tie
 
@@ -21,7 +21,7 @@ mul-b : tie.Need-mul-b Inv-loop μ-loop
 mul-b c = omega arith
 
 loop-holds : tie.Need-loop-holds Inv-loop μ-loop
-loop-holds c = (omega arith, refl, adding-none _ _ _ _)
+loop-holds c = (omega arith, refl, joining-none _ _ _ _ _ _ _)
 
 add-new : tie.Need-add-new Inv-loop μ-loop
 add-new c = omega arith
@@ -83,7 +83,7 @@ same-length c = c .before .loop .inv .1
 returns : tie.Need-returns Inv-loop μ-loop
 returns c =
     let e : c .before .loop .k ≡ c .before .before .before .args .w = omega arith in
-    added _ _ _ _ _ (rw e at (c .before .loop .inv .2))
+    joined _ _ _ _ _ _ _ _ (rw e at (c .before .loop .inv .2))
 
 pub add-words-spec : {M : Type 1} → statement M
 add-words-spec =

@@ -14,7 +14,7 @@ use Rattle.numbering.proofs.number_row.Tie as tie
 
 abbrev Inv-loop : tie.InvT-loop
 Inv-loop m₀ w i a k₀ m k =
-    (k ≤ w) × (length m ≡ length m₀) × ((j : ℕ) → j < 8192 → getD m j 0 ≡ getD m₀ j 0) × Counting k (λ c. false) (λ c. cell m₀ w i c && untaken m₀ c) m₀ m
+    (k ≤ w) × (length m ≡ length m₀) × ((j : ℕ) → j < 8192 → getD m j 0 ≡ getD m₀ j 0) × Counting 1 k (λ c. false) (λ c. cell m₀ w i c && untaken m₀ c) m₀ m
 
 abbrev μ-loop : tie.MeasureT-loop
 μ-loop m₀ w i a k₀ m k = w - k
@@ -23,7 +23,7 @@ mul-a : tie.Need-mul-a Inv-loop μ-loop
 mul-a c = omega arith
 
 loop-holds : tie.Need-loop-holds Inv-loop μ-loop
-loop-holds c = (omega arith, refl, λ j h. refl, counting-none _ _ _)
+loop-holds c = (omega arith, refl, λ j h. refl, counting-none _ _ _ _)
 
 add-bits : tie.Need-add-bits Inv-loop μ-loop
 add-bits c = omega arith
@@ -62,7 +62,7 @@ loop-again c =
       omega arith,
       done .long ∙ s .1,
       λ j h. done .kept j (inl (omega arith)) ∙ s .2 j h,
-      counting-word _ _ _ _ _ (s .3) (omega arith) _ _ _ _ (λ j h. refl) done (λ b h. bit-zero b) bits,
+      counting-word _ _ _ _ _ _ (s .3) (omega arith) _ _ _ _ (λ j h. refl) done (λ b h. bit-zero b) bits,
     )
 
 same-length : tie.Need-same-length Inv-loop μ-loop

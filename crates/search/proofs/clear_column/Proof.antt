@@ -2,7 +2,7 @@
 use Prim.Native.Nat.{_<_}
 use native.Mathlib.Nat.{mul-le-mul-right}
 use native.Mathlib.Omega.{arith}
-use Rattle.search.proofs.Rows.{one-less, adds-out, clears-none, clears-top, clears-moved}
+use Rattle.search.proofs.Rows.{one-less, clears-none, clears-top, clears-moved}
 use borrow.Author.Needs.{needs}
 use Rattle.search.proofs.clear_column.Statement.{statement}
 use Rattle.search.proofs.clear_column.Tie as tie
@@ -16,48 +16,43 @@ same-length c = search needs
 returns : tie.Need-returns
 returns c = clears-none _ _ _ _ _ _ (c .before .find-row .ensures) (c .if1 .taken)
 
-sub-add-later : tie.Need-sub-add-later
-sub-add-later c =
+sub-leave : tie.Need-sub-leave
+sub-leave c =
     let a = c .before .before .before .before .before .args in
     let f = c .before .before .find-row in
     let within : f .result < a .rows = omega (arith, f .ensures .within, c .before .if1 .left) in
     omega (arith, c .before .before .before .before .before .pre .1, one-less (a .w) (a .top) (a .rows) (a .q) (a .m .now) (f .result) (f .ensures) within)
 
-add-later-requires : tie.Need-add-later-requires
-add-later-requires c κs =
+leave-requires : tie.Need-leave-requires
+leave-requires c κs =
     let a = c .before .before .before .before .before .args in
     let p = c .before .before .before .before .before .pre in
     let f = c .before .before .find-row in
     let within : f .result < a .rows = omega (arith, f .ensures .within, c .before .if1 .left) in
     (within, (p .0 .0, f .ensures .within, p .0 .2, p .0 .3, p .0 .4, p .0 .5), omega (arith, p .1, one-less (a .w) (a .top) (a .rows) (a .q) (a .m .now) (f .result) (f .ensures) within))
 
-add-row-requires : tie.Need-add-row-requires
-add-row-requires c κs = search needs
-
 same-length-2 : tie.Need-same-length-2
 same-length-2 c = search needs
 
 returns-2 : tie.Need-returns-2
 returns-2 c =
-    let a = c .before .before .before .before .before .before .before .before .before .before .before .before .before .args in
-    let p = c .before .before .before .before .before .before .before .before .before .before .before .before .before .pre .0 in
-    let f = c .before .before .before .before .before .before .before .before .before .before .find-row in
-    let l = c .before .before .before .before .before .before .before .add-later in
-    let within : f .result < a .rows = omega (arith, f .ensures .within, c .before .before .before .before .before .before .before .before .before .if1 .left) in
-    clears-top (a .w) (a .top) (a .rows) (a .q) (f .result) (a .m .now) _ _ (p .2) (p .3) (p .0) (f .ensures) within (l .ensures)
-    (adds-out (a .w) (f .result) (f .result) _ _ (p .2) (omega (arith, p .3)) (omega (arith, p .3)) (omega (arith, p .5, l .kept .0)) (c .before .before .before .add-row .ensures)) (c .if2 .taken)
+    let a = c .before .before .before .before .before .before .before .before .before .args in
+    let p = c .before .before .before .before .before .before .before .before .before .pre .0 in
+    let f = c .before .before .before .before .before .before .find-row in
+    let within : f .result < a .rows = omega (arith, f .ensures .within, c .before .before .before .before .before .if1 .left) in
+    clears-top (a .w) (a .top) (a .rows) (a .q) (f .result) (a .m .now) _ (p .2) (p .3) (f .ensures) within (c .before .before .before .leave .ensures) (c .if2 .taken)
 
 mul-copy-words : tie.Need-mul-copy-words
 mul-copy-words c =
-    let a = c .before .before .before .before .before .before .before .before .before .before .before .before .before .before .args in
-    let p = c .before .before .before .before .before .before .before .before .before .before .before .before .before .before .pre .0 in
+    let a = c .before .before .before .before .before .before .before .before .before .before .args in
+    let p = c .before .before .before .before .before .before .before .before .before .before .pre .0 in
     omega (arith, p .4, mul-le-mul-right {m = a .top} {n = a .rows} (a .w) (p .1))
 
 mul-copy-words-2 : tie.Need-mul-copy-words-2
 mul-copy-words-2 c =
-    let a = c .before .before .before .before .before .before .before .before .before .before .before .before .before .before .args in
-    let f = c .before .before .before .before .before .before .before .before .before .before .before .find-row in
-    omega (arith, c .before .before .before .before .before .before .before .before .before .before .before .before .before .before .pre .0 .4, mul-le-mul-right {m = f .result} {n = a .rows} (a .w) (f .ensures .within))
+    let a = c .before .before .before .before .before .before .before .before .before .before .args in
+    let f = c .before .before .before .before .before .before .before .find-row in
+    omega (arith, c .before .before .before .before .before .before .before .before .before .before .pre .0 .4, mul-le-mul-right {m = f .result} {n = a .rows} (a .w) (f .ensures .within))
 
 copy-words-requires : tie.Need-copy-words-requires
 copy-words-requires c κs = search needs
@@ -67,13 +62,11 @@ same-length-3 c = search needs
 
 returns-3 : tie.Need-returns-3
 returns-3 c =
-    let a = c .before .before .before .before .before .before .before .before .before .before .before .before .before .before .before .before .before .args in
-    let p = c .before .before .before .before .before .before .before .before .before .before .before .before .before .before .before .before .before .pre .0 in
-    let f = c .before .before .before .before .before .before .before .before .before .before .before .before .before .before .find-row in
-    let l = c .before .before .before .before .before .before .before .before .before .before .before .add-later in
-    let within : f .result < a .rows = omega (arith, f .ensures .within, c .before .before .before .before .before .before .before .before .before .before .before .before .before .if1 .left) in
-    clears-moved (a .w) (a .top) (a .rows) (a .q) (f .result) (a .m .now) _ _ (p .2) (p .3) (p .0) (f .ensures) within (l .ensures)
-    (adds-out (a .w) (f .result) (f .result) _ _ (p .2) (omega (arith, p .3)) (omega (arith, p .3)) (omega (arith, p .5, l .kept .0)) (c .before .before .before .before .before .before .before .add-row .ensures)) _ (c .before .before .before .before .if2 .left) (p .5) (c .before .before .copy-words .ensures)
+    let a = c .before .before .before .before .before .before .before .before .before .before .before .before .before .args in
+    let p = c .before .before .before .before .before .before .before .before .before .before .before .before .before .pre .0 in
+    let f = c .before .before .before .before .before .before .before .before .before .before .find-row in
+    let within : f .result < a .rows = omega (arith, f .ensures .within, c .before .before .before .before .before .before .before .before .before .if1 .left) in
+    clears-moved (a .w) (a .top) (a .rows) (a .q) (f .result) (a .m .now) _ (p .2) (p .3) (f .ensures) within (c .before .before .before .before .before .before .before .leave .ensures) _ (c .before .before .before .before .if2 .left) (p .5) (c .before .before .copy-words .ensures)
 
 pub clear-column-spec : {M : Type 1} → statement M
 clear-column-spec =
@@ -82,9 +75,8 @@ clear-column-spec =
     find-row-requires
     same-length
     returns
-    sub-add-later
-    add-later-requires
-    add-row-requires
+    sub-leave
+    leave-requires
     same-length-2
     returns-2
     mul-copy-words
