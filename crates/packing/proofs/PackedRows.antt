@@ -1,19 +1,24 @@
 -- Rows of the code packed one after the other. Assumes nothing.
-use mathlib.Core.Path.{_≡_, refl, sym, ap, _∙_, subst}
+use mathlib.Core.Path.{_≡_, refl, sym, ap, ap₂, _∙_, subst}
 use mathlib.Core.Bool.{Bool, true, false, _&&_}
+use mathlib.Core.Logic.{inr}
 use mathlib.Core.List.{List, [], _∷_, _++_}
-use Prim.Native.Nat.{ℕ, zero, suc, _+_, _*_, _≤_, _<_}
-use native.Mathlib.Nat.{add-zero}
+use Prim.Native.Nat.{ℕ, zero, suc, _+_, _*_, _/_, _%_, _≤_, _<_, zero-le}
+use native.Mathlib.Nat.{add-zero, suc-mul}
 use native.Mathlib.Numerals.{add-one}
 use native.Mathlib.Omega.{arith}
 use lib.Dec.{leb}
-use lib.ListN.{length}
+use lib.ListN.{length, getD}
 use borrow.Author.Tests.{lt-ltb, le-leb, leb-true}
-use Rattle.binary.specs.Meaning.{Row}
+use Rattle.binary.specs.Meaning.{Row, has}
+use Rattle.binary.specs.Words.{bit}
 use Rattle.binary.proofs.Bits.{never, and-out}
-use Rattle.packing.specs.Packed.{wordsFor, room, Packed, Put}
-use Rattle.packing.proofs.Rows.{few-words}
-use Rattle.packing.proofs.Put.{packed-more}
+use Rattle.binary.proofs.WordBits.{bit-zero}
+use Rattle.lists.specs.Cleared.{Cleared}
+use Rattle.packing.specs.Packed.{wordsFor, cell, room, Packed, Put}
+use Rattle.packing.specs.Packing.{BitsSet}
+use Rattle.packing.proofs.Rows.{few-words, apart}
+use Rattle.packing.proofs.Put.{put-blank, packed-none, packed-more}
 use Rattle.code.specs.Lists.{rowAt, rowsFrom}
 use Rattle.packing.specs.PackedRows.{roomFor, RowsPut, PackedFrom}
 
@@ -33,25 +38,45 @@ room-in w i size a b d =
     let f = few-words (i + 1) w (omega arith) a in
     rw (le-leb w 16 a, lt-ltb i 512 b, le-leb ((i + 1) * w) size (omega arith))
 
-pub pack-more : (n : ℕ) (flat ends : List ℕ) (other i j w : ℕ) (row m m′ : List ℕ) (r : Bool) → w ≡ wordsFor n → j ≡ i → n ≤ 1024 → i < 512 → 8192 ≤ length m
-    → Packed n (wordsFor n) (rowsFrom flat ends other i) m → row ≡ rowAt flat ends (other + i) → Put w j row m m′ r
-    → Packed n (wordsFor n) (rowsFrom flat ends other (i + 1)) m′
-pack-more n flat ends other i j w row m m′ r words same small few long packed is-row put =
-    subst (λ (rs : List Row). Packed n (wordsFor n) rs m′)
-    (ap (λ (x : Row). rowsFrom flat ends other i ++ (x ∷ [])) is-row ∙ sym (rows-more flat ends other i) ∙ ap (rowsFrom flat ends other) (sym (add-one i)))
-    (packed-more n (wordsFor n) (rowsFrom flat ends other i) row m m′ (omega arith) packed (placed put))
-  where
-    narrow : wordsFor n ≤ 16
-    narrow = omega arith
+-- The first i rows are packed, and the words of those up to `count` are clear.
+pub record Packing (n : ℕ) (flat ends : List ℕ) (first count i : ℕ) (m : List ℕ) : Type 0 where
+  pub packed : Packed n (wordsFor n) (rowsFrom flat ends first i) m
+  pub clear : (k : ℕ) → i * wordsFor n ≤ k → k < count * wordsFor n → getD m k 0 ≡ 0
 
-    here : Put w j row m m′ r → Put (wordsFor n) i row m m′ r
-    here p = subst (λ (x : ℕ). Put x i row m m′ r) words (subst (λ (x : ℕ). Put w x row m m′ r) same p)
+pub packing-none : (n : ℕ) (flat ends : List ℕ) (first count j w : ℕ) (m m′ : List ℕ) → j ≡ count → w ≡ wordsFor n → Cleared 0 (j * w) m m′ → Packing n flat ends first count 0 m′
+packing-none n flat ends first count j w m m′ same words v =
+    record { packed = packed-none n (wordsFor n) m′; clear = λ k h l. v .inside k zero-le (subst (λ (x : ℕ). k < x) (sym (ap₂ _*_ same words)) l) }
 
-    placed : Put w j row m m′ r → Put (wordsFor n) (length (rowsFrom flat ends other i)) row m m′ true
-    placed p =
-        let q = here p in
-        subst (λ (k : ℕ). Put (wordsFor n) k row m m′ true) (sym (rows-count flat ends other i))
-        (subst (Put (wordsFor n) i row m m′) (q .answer ∙ room-in (wordsFor n) i (length m) narrow few long) q)
+module _ (n : ℕ) (flat ends : List ℕ) (first count i j w : ℕ) (row m m′ : List ℕ) (place : j ≡ i) (words : w ≡ wordsFor n) (small : n ≤ 1024) (inside : i < count) (few : count ≤ 512) (long : 8192 ≤ length m)
+    (s : Packing n flat ends first count i m) (is-row : row ≡ rowAt flat ends (first + i)) (set : BitsSet w j (has row) m m′) (same : length m′ ≡ length m) where
+  bits : BitsSet (wordsFor n) i (has row) m m′
+  bits = subst (λ (x : ℕ). BitsSet x i (has row) m m′) words (subst (λ (x : ℕ). BitsSet w x (has row) m m′) place set)
+
+  narrow : wordsFor n ≤ 16
+  narrow = omega arith
+
+  empty : (c : ℕ) → c < 64 * wordsFor n → cell m (wordsFor n) i c ≡ false
+  unfolding cell
+  empty c h =
+      let next = apart (wordsFor n) i count inside in
+      ap (λ (x : ℕ). bit x (c % 64)) (s .clear (i * wordsFor n + c / 64) (omega arith) (omega arith)) ∙ bit-zero (c % 64)
+
+  put : Put (wordsFor n) (length (rowsFrom flat ends first i)) row m m′ true
+  put =
+      subst (λ (k : ℕ). Put (wordsFor n) k row m m′ true) (sym (rows-count flat ends first i))
+      (put-blank (wordsFor n) i row m m′ empty bits same (room-in (wordsFor n) i (length m) narrow (omega arith) long))
+
+  pub pack-more : Packing n flat ends first count (i + 1) m′
+  pack-more =
+      record {
+        packed =
+            subst (λ (rs : List Row). Packed n (wordsFor n) rs m′)
+            (ap (λ (x : Row). rowsFrom flat ends first i ++ (x ∷ [])) is-row ∙ sym (rows-more flat ends first i) ∙ ap (rowsFrom flat ends first) (sym (add-one i)))
+            (packed-more n (wordsFor n) (rowsFrom flat ends first i) row m m′ (omega arith) (s .packed) put);
+        clear = λ k h l.
+            let past : i * wordsFor n + wordsFor n ≤ k = omega (arith, suc-mul i (wordsFor n), subst (λ (x : ℕ). x * wordsFor n ≤ k) (add-one i) h) in
+            bits .kept k (inr past) ∙ s .clear k (omega arith) l;
+      }
 
 pub pack-end : (n : ℕ) (flat ends : List ℕ) (other others i : ℕ) (work work′ : List ℕ) → length work′ ≡ length work → i ≡ others
     → Packed n (wordsFor n) (rowsFrom flat ends other i) work′ → RowsPut n flat ends other others work work′

@@ -77,16 +77,23 @@ emptied : (w i : ℕ) (m m′ : List ℕ) → Cleared (i * w) (i * w + w) m m′
 unfolding cell
 emptied w i m m′ s c h = ap (λ (x : ℕ). bit x (c % 64)) (s .inside (i * w + c / 64) (omega arith) (omega arith)) ∙ bit-zero (c % 64)
 
-pub put-done : (w i : ℕ) (row m m′ m″ : List ℕ) → Cleared (i * w) (i * w + w) m m′ → BitsSet w i (has row) m′ m″ → length m″ ≡ length m
-    → room w i (length m) ≡ true → Put w i row m m″ true
-put-done w i row m m′ m″ s b l e =
+-- The bits of a row set where no bit was.
+pub put-blank : (w i : ℕ) (row m m′ : List ℕ) → ((c : ℕ) → c < 64 * w → cell m w i c ≡ false) → BitsSet w i (has row) m m′ → length m′ ≡ length m → room w i (length m) ≡ true
+    → Put w i row m m′ true
+put-blank w i row m m′ empty b l e =
     record {
       answer = sym e;
       size = l;
-      cells = λ _ c h. b .cells c h ∙ ap (_|| has row c) (emptied w i m m′ s c h);
-      rest = λ _ k h. b .kept k h ∙ s .outside k h;
+      cells = λ _ c h. b .cells c h ∙ ap (_|| has row c) (empty c h);
+      rest = λ _. b .kept;
       refused = λ t. never refl t;
     }
+
+pub put-done : (w i : ℕ) (row m m′ m″ : List ℕ) → Cleared (i * w) (i * w + w) m m′ → BitsSet w i (has row) m′ m″ → length m″ ≡ length m
+    → room w i (length m) ≡ true → Put w i row m m″ true
+put-done w i row m m′ m″ s b l e =
+    let p = put-blank w i row m′ m″ (emptied w i m m′ s) b (l ∙ sym (s .long)) (ap (room w i) (s .long) ∙ e) in
+    record { answer = sym e; size = l; cells = p .cells; rest = λ t k h. p .rest t k h ∙ s .outside k h; refused = λ t. never refl t }
 
 pub put-refused : (w i : ℕ) (row m : List ℕ) → room w i (length m) ≡ false → Put w i row m m false
 put-refused w i row m e =

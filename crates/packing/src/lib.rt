@@ -69,7 +69,7 @@ pub fn put_row(work: &mut [u64], words: usize, i: usize, row: &[u16]) -> bool
     true
 }
 
-// The rows of the code packed one after the other, from the start of the work list.
+// The rows of the code packed one after the other, from the start of the work list: the words of all are cleared at once.
 fn put_rows(n: u16, flat: &[u16], ends: &[u16], rows: Rows, work: &mut [u64])
     requires { ⌜ (n ≤ 1024) × (rows .count ≤ 512) × (rows .first .0 ≤ 512) × (8192 ≤ length (now work)) ⌝ }
     ensures { λ _. ⌜ RowsPut n (now (flat .entry)) (now (ends .entry)) (rows .first .0) (rows .count) (now (work .entry)) (now (work .exit)) ⌝ }
@@ -77,10 +77,11 @@ fn put_rows(n: u16, flat: &[u16], ends: &[u16], rows: Rows, work: &mut [u64])
     let words = words_for(n);
     let first = rows.first;
     let count = rows.count;
+    clear_words(work, 0, index(count) * words);
     let mut i: u16 = 0;
     while i < count {
         let row = code::row_at(flat, ends, Row(first.0 + i));
-        put_row(work, words, index(i), row);
+        set_bits(work, words, index(i), row);
         i += 1;
     }
 }
