@@ -1,6 +1,6 @@
 -- The qubit that the guess rule names, found from below. Assumes nothing.
 use mathlib.Core.Path.{_≡_, refl, ap, _∙_}
-use mathlib.Core.Bool.{Bool, true, false, _&&_, _||_, cond}
+use mathlib.Core.Bool.{Bool, true, false, _&&_, _||_}
 use mathlib.Core.Logic.{⊎-elim}
 use mathlib.Core.Option.{Option, none, some}
 use mathlib.Core.List.{List}
@@ -11,56 +11,66 @@ use borrow.Author.Tests.{lt-ltb, le-ltb, eq-eqb, ne-eqb}
 use lib.Dec.{eqb, ltb}
 use lib.ListN.{getD}
 use Rattle.binary.specs.Meaning.{Qubits}
+use Rattle.binary.proofs.Bits.{never}
 use Rattle.binary.proofs.WordBits.{order}
-use Rattle.guessing.specs.declared.Choice.{Choice}
 use Rattle.guessing.specs.declared.Choice.the-variants.{NoQubit, Named}
 use Rattle.machine.specs.Machine.{isOpen, pairs, degree, fewer, better, best, freest}
 use Rattle.machine.specs.Lists.{view}
 use Rattle.machine.proofs.Guessing.{best-rule}
 use Rattle.scans.specs.Rows.{RowLists, rowChecks}
-use Rattle.guessing.specs.Guessing.{Weighed, lighter, choiceOf, betterOf, NamedBelow}
+use Rattle.guessing.specs.Guessing.{weightOf, Weighed, lighter, choiceOf}
 use Rattle.guessing.proofs.Weighing.{degree-few}
-
--- The rule names a qubit below n.
-pub named-below : (behind : ℕ → ℕ → Bool) (n : ℕ) (o : Qubits) → NamedBelow (choiceOf (best behind n o)) n
-named-below behind zero o = tt
-named-below behind (suc n) o = look (o n) (best behind n o) (named-below behind n o)
-  where
-    pick : (b : Bool) (p : ℕ) → p < n → NamedBelow (choiceOf (cond b (some n) (some p))) (suc n)
-    pick true p h = omega arith
-    pick false p h = omega arith
-
-    look : (b : Bool) (r : Option ℕ) → NamedBelow (choiceOf r) n → NamedBelow (choiceOf (better b behind n r)) (suc n)
-    look false none h = tt
-    look false (some p) h = omega arith
-    look true none h = omega arith
-    look true (some p) h = pick (behind p n) p h
-
-pub below-more : (c : Choice) (m n : ℕ) → m ≤ n → NamedBelow c m → NamedBelow c n
-below-more NoQubit m n h k = tt
-below-more (Named p) m n h k = omega arith
 
 ----------------------------------------------------------------------
 -- A turn of the search
 
-module _ (work : List ℕ) (q : ℕ) where
-  choice-better : (r : Option ℕ) → choiceOf (better true (lighter work) q r) ≡ betterOf work (choiceOf r) (record { 0 = q })
-  choice-better none = refl
-  choice-better (some p) = pick (lighter work p q)
-    where
-      pick : (b : Bool) → choiceOf (cond b (some q) (some p)) ≡ cond b (Named (record { 0 = q })) (Named (record { 0 = p }))
-      pick true = refl
-      pick false = refl
+-- The rule's qubit, of those below q.
+abbrev pub bestBelow : ℕ → List ℕ → List ℕ → ℕ → Option ℕ
+bestBelow n marks work q = best (lighter work) q (isOpen (view n marks))
 
-  module _ (n : ℕ) (marks : List ℕ) (h : q < n) where
-    pub choice-yes : getD marks q 0 ≡ 4
-        → choiceOf (best (lighter work) (q + 1) (isOpen (view n marks)))
-        ≡ betterOf work (choiceOf (best (lighter work) q (isOpen (view n marks)))) (record { 0 = q })
-    choice-yes e = rw (add-one, lt-ltb q n h, eq-eqb (getD marks q 0) 4 e) (choice-better (best (lighter work) q (isOpen (view n marks))))
+-- What is kept of the qubit named so far: its number, or n where there is none, and its weight.
+abbrev pub Leads : ℕ → List ℕ → ℕ → ℕ → Option ℕ → Type 0
+Leads n work at largest none = at ≡ n
+Leads n work at largest (some p) = (at ≡ p) × (at < n) × (largest ≡ weightOf work p)
 
-    pub choice-no : (getD marks q 0 ≡ 4 → ⊥)
-        → choiceOf (best (lighter work) (q + 1) (isOpen (view n marks))) ≡ choiceOf (best (lighter work) q (isOpen (view n marks)))
-    choice-no e = rw (add-one, lt-ltb q n h, ne-eqb (getD marks q 0) 4 e)
+module _ (n : ℕ) (work : List ℕ) (at largest : ℕ) where
+  module _ (q : ℕ) where
+    -- Whether qubit q, open or not, is named in place of the one so far.
+    abbrev beats : Bool → Bool
+    beats o = o && (eqb at n || ltb largest (weightOf work q))
+
+    takes : (o : Bool) (r : Option ℕ) → q < n → Leads n work at largest r → beats o ≡ true → Leads n work q (weightOf work q) (better o (lighter work) q r)
+    takes false r h l e = never e refl
+    takes true none h l e = (refl, h, refl)
+    takes true (some p) h l e =
+        let more : lighter work p q ≡ true = rw (ne-eqb at n (λ k. absurd (omega arith)), l .2) at e in
+        rw more (refl, h, refl)
+
+    stays : (o : Bool) (r : Option ℕ) → Leads n work at largest r → beats o ≡ false → Leads n work at largest (better o (lighter work) q r)
+    stays false r l e = l
+    stays true none l e = never refl (rw (eq-eqb at n l) at e)
+    stays true (some p) l e =
+        let no-more : lighter work p q ≡ false = rw (ne-eqb at n (λ k. absurd (omega arith)), l .2) at e in
+        rw no-more l
+
+    module _ (marks : List ℕ) (h : q < n) (l : Leads n work at largest (bestBelow n marks work q)) where
+      pub leads-taken : beats (eqb (getD marks q 0) 4) ≡ true → Leads n work q (weightOf work q) (bestBelow n marks work (q + 1))
+      leads-taken e = rw (add-one, lt-ltb q n h) (takes (eqb (getD marks q 0) 4) (bestBelow n marks work q) h l e)
+
+      pub leads-left : beats (eqb (getD marks q 0) 4) ≡ false → Leads n work at largest (bestBelow n marks work (q + 1))
+      leads-left e = rw (add-one, lt-ltb q n h) (stays (eqb (getD marks q 0) 4) (bestBelow n marks work q) l e)
+
+  pub leads-within : (r : Option ℕ) → Leads n work at largest r → at ≤ n
+  leads-within none l = omega arith
+  leads-within (some p) l = omega arith
+
+  pub leads-none : (r : Option ℕ) → Leads n work at largest r → at ≡ n → NoQubit ≡ choiceOf r
+  leads-none none l e = refl
+  leads-none (some p) l e = absurd (omega arith)
+
+  pub leads-one : (r : Option ℕ) → Leads n work at largest r → (at ≡ n → ⊥) → Named (record { 0 = at }) ≡ choiceOf r
+  leads-one none l e = absurd (e l)
+  leads-one (some p) l e = rw (l .0)
 
 ----------------------------------------------------------------------
 -- The weights that decide

@@ -9,8 +9,6 @@
 --   Weighs        the promise of `weigh`: the weights counted
 --   Renews        the promise of `renew`: the weights after a qubit is settled
 --   choiceOf      the qubit that the rule names, as an answer
---   betterOf      the better of the qubit named so far and of a higher open one
---   NamedBelow    the qubit named, if any, is below n
 --   heaviest      the promise of `most_open`: the open qubit of the largest weight, the lowest of equals
 use mathlib.Core.Path.{_≡_}
 use mathlib.Core.Bool.{Bool, true, false, _&&_, cond}
@@ -20,7 +18,6 @@ use Prim.Native.Nat.{ℕ, _+_, _*_, _%_, _≤_, _<_}
 use lib.Dec.{eqb, ltb, leb}
 use lib.ListN.{length, getD}
 use Rattle.binary.specs.Meaning.{Qubits, Check, has}
-use Rattle.code.specs.declared.Qubit.{Qubit}
 use Rattle.code.specs.Tests.{Ascending}
 use Rattle.scans.specs.Rows.{RowLists, rowsIn, rowChecks, GoodRows}
 use Rattle.kept.specs.Kept.{Kept, RowsOn}
@@ -99,14 +96,6 @@ lighter work p q = ltb (weightOf work p) (weightOf work q)
 abbrev pub choiceOf : Option ℕ → Choice
 choiceOf none = NoQubit
 choiceOf (some p) = Named (record { 0 = p })
-
-abbrev pub betterOf : List ℕ → Choice → Qubit → Choice
-betterOf work NoQubit q = Named q
-betterOf work (Named p) q = cond (lighter work (p .0) (q .0)) (Named q) (Named p)
-
-abbrev pub NamedBelow : Choice → ℕ → Type 0
-NamedBelow NoQubit n = Unit {0}
-NamedBelow (Named p) n = p .0 < n
 
 unfoldable pub namable? : ℕ → ℕ → ℕ → Bool
 namable? n marks work = leb n 1024 && leb n marks && leb 10240 work

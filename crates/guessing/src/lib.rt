@@ -6,7 +6,7 @@ ghost use lib.ListN.{length};
 ghost use Rattle.machine.specs.Machine.{isOpen, best};
 ghost use Rattle.machine.specs.Lists.{view};
 ghost use Rattle.code.specs.Lists.{rowAt};
-ghost use Rattle.guessing.specs.Guessing.{shareOf, changeOf, AddedRow, WeighedRows, RenewedRows, weighable?, Weighs, Renews, lighter, choiceOf, betterOf, NamedBelow, namable?, heaviest};
+ghost use Rattle.guessing.specs.Guessing.{shareOf, changeOf, AddedRow, WeighedRows, RenewedRows, weighable?, Weighs, Renews, lighter, choiceOf, namable?, heaviest};
 use code::Qubit;
 use code::Row;
 use code::Rows;
@@ -139,37 +139,28 @@ pub fn renew(n: usize, flat: &[u16], ends: &[u16], rows: Rows, p: Qubit, work: &
     }
 }
 
-// The better of the qubit named so far and of q, a higher open one.
-fn better(work: &[u64], named: Choice, q: Qubit) -> Choice
-    requires { ⌜ (10240 ≤ length (now work)) × NamedBelow named 1024 × (q .0 < 1024) ⌝ }
-    ensures { λ r. ⌜ r ≡ betterOf (now (work .entry)) named q ⌝ }
-{
-    let Choice::Named(p) = named else {
-        return Choice::Named(q);
-    };
-    let low = WEIGHTS + p.0 as usize;
-    let high = WEIGHTS + q.0 as usize;
-    if work[low] < work[high] {
-        Choice::Named(q)
-    } else {
-        Choice::Named(p)
-    }
-}
-
-// The open qubit of the largest weight, the lowest of equals.
+// The open qubit of the largest weight, the lowest of equals. The parts of the test are joined by `&` and `|`, which do not branch: no branch on a mark or
+// on two weights could be foretold.
 fn most(n: usize, marks: &[u8], work: &[u64]) -> Choice
     requires { ⌜ (n ≤ 1024) × (n ≤ length (now marks)) × (10240 ≤ length (now work)) ⌝ }
     ensures { λ r. ⌜ r ≡ choiceOf (best (lighter (now (work .entry))) n (isOpen (view n (now (marks .entry))))) ⌝ }
 {
-    let mut named = Choice::NoQubit;
+    let mut at = n;
+    let mut largest: u64 = 0;
     let mut q: usize = 0;
     while q < n {
-        if marks[q] == 4 {
-            named = better(work, named, Qubit(q as u16));
+        let weight = work[WEIGHTS + q];
+        let more = (at == n) | (largest < weight);
+        if (marks[q] == 4) & more {
+            at = q;
+            largest = weight;
         }
         q += 1;
     }
-    named
+    if at == n {
+        return Choice::NoQubit;
+    }
+    Choice::Named(Qubit(at as u16))
 }
 
 // Whether the sizes are document 01's and the lists long enough to name a qubit by.
