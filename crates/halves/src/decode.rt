@@ -1,9 +1,8 @@
-// The decode of a half: a try, its start and its turns, and what it leaves in its lists.
+// The decode of a half: its start and its turns, those without a guess tried first, and what it leaves in its lists.
 ghost use mathlib.Core.Path.{_≡_};
 ghost use Prim.Native.Nat.{_+_, _*_, _≤_};
 ghost use lib.ListN.{length};
 ghost use Rattle.machine.specs.Report.{none?};
-ghost use Rattle.starting.specs.Starting.{Starts};
 ghost use Rattle.halves.specs.Starts.{Finished, HalfRan, fits?, HalfDone};
 use crate::fills;
 use code::Rows;
@@ -79,9 +78,8 @@ fn nothing() -> HalfReport {
     }
 }
 
-// The start of a half after a try that did not end it. Where the try left a qubit, the search is made at once.
-fn start_again(
-    tried: TryAnswer,
+// A half of which peeling leaves a qubit: its start by the search, and its turns, those up to the first guess by the numbers of the rows.
+fn search_and_turn(
     n: u16,
     flat: &[u16],
     ends: &[u16],
@@ -89,20 +87,47 @@ fn start_again(
     lit: &[u8],
     own: Rows,
     others: Rows,
+    budget: u8,
+    limit: u16,
     work: &mut [u64],
     marks: &mut [u8],
-)
-    ensures { λ _. ⌜ Starts n (record { flat = now (flat .entry); ends = now (ends .entry); lit = now (lit .entry); first = own .first .0; count = own .count }) (now (lost .entry)) (others .first .0) (others .count) (now (work .entry)) (now (work .exit)) (now (marks .entry)) (now (marks .exit)) ⌝ }
+    forms: &mut [u64],
+) -> RunAnswer
+    requires { ⌜ (n ≤ 1024) × (own .count ≤ 512) × (others .count ≤ 512) × (own .first .0 ≤ 512) × (others .first .0 ≤ 512) × (10240 ≤ length (now work)) ⌝ }
+    requires { ⌜ (n ≤ length (now lost)) × (own .first .0 + own .count ≤ length (now lit)) × (n ≤ length (now marks)) × (4 * n ≤ length (now forms)) ⌝ }
+    ensures { λ r. ⌜ HalfRan n (record { flat = now (flat .entry); ends = now (ends .entry); lit = now (lit .entry); first = own .first .0; count = own .count }) (now (lost .entry)) (others .first .0) (others .count) budget limit (record { marks = now (marks .entry); forms = now (forms .entry); work = now (work .entry) }) (record { marks = now (marks .exit); forms = now (forms .exit); work = now (work .exit) }) r ⌝ }
 {
-    if let TryAnswer::Left = tried {
-        starting::search(n, flat, ends, lost, lit, own, others, work, marks);
-        return;
+    starting::mark_start(n, flat, ends, lost, others, work, marks);
+    let fixed = scans::count_marks(n, marks, 1);
+    let tried = trying::try_turns(n, ends, lit, own, limit, fixed, work, marks, forms);
+    match tried {
+        TryAnswer::Over(told) => {
+            return RunAnswer::Over(told);
+        }
+        TryAnswer::Left(made) => {
+            filling::fill(n, flat, ends, lit, own, marks, work);
+            return turns::go_on(
+                n,
+                flat,
+                ends,
+                lit,
+                own,
+                budget,
+                limit,
+                made,
+                work,
+                marks,
+                forms,
+            );
+        }
+        TryAnswer::Unknown => {}
     }
-    starting::start(n, flat, ends, lost, lit, own, others, work, marks);
+    filling::fill(n, flat, ends, lit, own, marks, work);
+    turns::run_turns(n, flat, ends, lit, own, budget, limit, work, marks, forms)
 }
 
-// The start and the turns of a half. First a try, as if no qubit were fixed and with guess budget 0: where it is over, peeling left nothing, no qubit is fixed and
-// none is guessed, and the half ends so. Otherwise the half is started anew.
+// The start and the turns of a half. First a try, as if no qubit were fixed: where it is over, peeling left nothing, no qubit is fixed and none is guessed, and the
+// half ends so. Where a qubit is left, the search is made.
 fn run_half(
     n: u16,
     flat: &[u16],
@@ -121,11 +146,28 @@ fn run_half(
     requires { ⌜ (n ≤ length (now lost)) × (own .first .0 + own .count ≤ length (now lit)) × (n ≤ length (now marks)) × (4 * n ≤ length (now forms)) ⌝ }
     ensures { λ r. ⌜ HalfRan n (record { flat = now (flat .entry); ends = now (ends .entry); lit = now (lit .entry); first = own .first .0; count = own .count }) (now (lost .entry)) (others .first .0) (others .count) budget limit (record { marks = now (marks .entry); forms = now (forms .entry); work = now (work .entry) }) (record { marks = now (marks .exit); forms = now (forms .exit); work = now (work .exit) }) r ⌝ }
 {
-    let first = trying::try_turns(n, ends, lost, lit, own, limit, work, marks, forms);
-    if let TryAnswer::Over(told) = first {
+    starting::open_marks(n, lost, marks);
+    let tried = trying::try_turns(n, ends, lit, own, limit, 0, work, marks, forms);
+    if let TryAnswer::Over(told) = tried {
         return RunAnswer::Over(told);
     }
-    start_again(first, n, flat, ends, lost, lit, own, others, work, marks);
+    if let TryAnswer::Left(_) = tried {
+        return search_and_turn(
+            n,
+            flat,
+            ends,
+            lost,
+            lit,
+            own,
+            others,
+            budget,
+            limit,
+            work,
+            marks,
+            forms,
+        );
+    }
+    starting::start(n, flat, ends, lost, lit, own, others, work, marks);
     turns::run_turns(n, flat, ends, lit, own, budget, limit, work, marks, forms)
 }
 

@@ -1,6 +1,6 @@
 -- The two ways of a start: the lost qubits peel away, or the search is made. Assumes nothing.
 use mathlib.Core.Path.{_≡_, refl, sym, ap, _∙_, fun-ext, subst}
-use mathlib.Core.Bool.{Bool, true, false}
+use mathlib.Core.Bool.{Bool, true, false, _&&_}
 use mathlib.Core.Logic.{_⊎_, inl, inr}
 use mathlib.Core.List.{List}
 use Prim.Native.Nat.{ℕ, zero, suc, _+_, _≤_, _<_}
@@ -32,7 +32,7 @@ use Rattle.search.specs.declared.Search.{Search}
 use Rattle.search.specs.Marked.{Marked}
 use Rattle.lists.specs.Filled.{Filled}
 use Rattle.packing.specs.PackedRows.{RowsPut}
-use Rattle.starting.specs.Starting.{openMark, Keeps, Saves, Restores, PeeledFirst, Searched, Begun, fits?, fitting, Starts}
+use Rattle.starting.specs.Starting.{openMark, Keeps, Saves, Restores, PeeledFirst, Searched, Begun, fits?, fitting, Starts, Opens, searchable?, Marks}
 use Rattle.starting.proofs.Marks.{listed-below, open-marks, open-lost, long-enough, fixed-marks}
 
 ----------------------------------------------------------------------
@@ -165,21 +165,18 @@ module _ (n : ℕ) (c : RowLists) (lost work work₁ work₂ work₃ marks marks
 ----------------------------------------------------------------------
 -- The search
 
-module _ (n : ℕ) (c : RowLists) (lost : List ℕ) (other others : ℕ) (work work₁ work₂ work₃ marks marks′ : List ℕ) (r : Search) (size : n ≤ 1024) (many : others ≤ 512)
+module _ (n : ℕ) (flat ends lost : List ℕ) (other others : ℕ) (work work₁ work₂ marks marks′ : List ℕ) (r : Search) (size : n ≤ 1024) (many : others ≤ 512)
     (words : 10240 ≤ length work) (long : n ≤ length lost) (room : n ≤ length marks)
-    (packed : RowsPut n (c .flat) (c .ends) other others work work₁) (fixes : Marked n others lost work₁ marks work₂ marks′ r)
-    (filled : Fills n c marks′ work₂ work₃) where
-  pub searched : Searched n c lost other others work work₃ marks marks′
+    (packed : RowsPut n flat ends other others work work₁) (fixes : Marked n others lost work₁ marks work₂ marks′ r) where
+  pub searched : Searched n flat ends lost other others work work₂ marks marks′
   searched =
-      let l : length work₂ ≡ length work = fixes .work-size ∙ packed .long in
       record {
-        work-long = filled .long ∙ l;
+        work-long = fixes .work-size ∙ packed .long;
         marks-long = fixes .size;
         rest = fixes .rest;
         marked = λ opened good.
-            fixed-marks n (c .flat) (c .ends) lost other others marks marks′ work work₁ work₂ r packed fixes
-            (long-enough n (c .flat) (c .ends) lost other others marks marks′ work work₁ work₂ r packed fixes size many (omega arith) long room) opened good;
-        keeps = λ lit first few good. filled-keeps n c marks′ work₂ work₃ size few (omega arith) lit (omega arith) filled good;
+            fixed-marks n flat ends lost other others marks marks′ work work₁ work₂ r packed fixes
+            (long-enough n flat ends lost other others marks marks′ work work₁ work₂ r packed fixes size many words long room) opened good;
       }
 
 ----------------------------------------------------------------------
@@ -226,11 +223,12 @@ module _ (n : ℕ) (c : RowLists) (lost : List ℕ) (other others : ℕ) (work m
   starts-not e = record { work-long = refl; marks-long = refl; rest = λ q h. refl; refused = λ u. (refl, refl); begun = λ u. never u e }
 
   -- The search is made where every lost qubit is marked open.
-  pub starts-searched : fitting n c lost other others work marks ≡ true → (work₁ marks₁ work₂ marks₂ : List ℕ) → length work₁ ≡ length work → Filled (openMark n lost) n marks marks₁
-      → Searched n c lost other others work₁ work₂ marks₁ marks₂ → Starts n c lost other others work work₂ marks marks₂
-  starts-searched e work₁ marks₁ work₂ marks₂ long opened v =
+  pub starts-searched : fitting n c lost other others work marks ≡ true → (work₁ marks₁ work₂ marks₂ work₃ : List ℕ) → length work₁ ≡ length work
+      → Filled (openMark n lost) n marks marks₁ → Searched n (c .flat) (c .ends) lost other others work₁ work₂ marks₁ marks₂ → Fills n c marks₂ work₂ work₃
+      → Starts n c lost other others work work₃ marks marks₂
+  starts-searched e work₁ marks₁ work₂ marks₂ work₃ long opened v filled =
       record {
-        work-long = v .work-long ∙ long;
+        work-long = filled .long ∙ v .work-long ∙ long;
         marks-long = v .marks-long ∙ opened .long;
         rest = λ q h. v .rest q h ∙ opened .rest q h;
         refused = λ u. never e u;
@@ -238,7 +236,9 @@ module _ (n : ℕ) (c : RowLists) (lost : List ℕ) (other others : ℕ) (work m
             let f = fits-out e in
             record {
               marked = v .marked (opened .first) others-good;
-              keeps = v .keeps (f .lit-long) (f .start) (f .few) good;
+              keeps =
+                  let l = v .work-long in
+                  filled-keeps n c marks₂ work₂ work₃ (f .size) (f .few) (let s = f .start in let m = f .few in omega arith) (f .lit-long) (let w = f .words in omega arith) filled good;
             };
       }
 
@@ -267,3 +267,57 @@ module _ (n : ℕ) (c : RowLists) (lost : List ℕ) (other others : ℕ) (work m
               keeps = keeps-same n c (s .work) work₂ marks₁ (f .size) (f .few) (λ k h. restored .stays k h ∙ s .below k h) (λ j h. restored .set j h ∙ s .set j h)
                   (λ j h. restored .counts j h ∙ s .counts j h) (s .keeps);
             }
+
+----------------------------------------------------------------------
+-- The marks alone
+
+module _ (n : ℕ) (lost marks : List ℕ) where
+  pub opens-made : (n ≤ length lost) × (n ≤ length marks) → (marks′ : List ℕ) → Filled (openMark n lost) n marks marks′ → Opens n lost marks marks′
+  opens-made fit marks′ v = record { long = v .long; opened = λ e. v; refused = λ e. never (rw (le-leb n (length lost) (fit .0), le-leb n (length marks) (fit .1))) e }
+
+  pub opens-not : (leb n (length lost) && leb n (length marks)) ≡ false → Opens n lost marks marks
+  opens-not e = record { long = refl; opened = λ u. never u e; refused = λ u. refl }
+
+module _ (n : ℕ) (flat ends lost : List ℕ) (other others : ℕ) (work marks : List ℕ) where
+  abbrev searching : Bool
+  searching = searchable? n (length lost) other others (length work) (length marks)
+
+  pub marks-not : searching ≡ false → Marks n flat ends lost other others work work marks marks
+  marks-not e = record { work-long = refl; marks-long = refl; rest = λ q h. refl; refused = λ u. (refl, refl); marked = λ u. never u e }
+
+  pub marks-searched : searching ≡ true → (work′ marks₁ marks′ : List ℕ) → Filled (openMark n lost) n marks marks₁ → Searched n flat ends lost other others work work′ marks₁ marks′
+      → Marks n flat ends lost other others work work′ marks marks′
+  marks-searched e work′ marks₁ marks′ opened v =
+      record {
+        work-long = v .work-long;
+        marks-long = v .marks-long ∙ opened .long;
+        rest = λ q h. v .rest q h ∙ opened .rest q h;
+        refused = λ u. never e u;
+        marked = λ u good. v .marked (opened .first) good;
+      }
+
+-- What the search asks.
+pub record Searchable (n lost other others work marks : ℕ) : Type 0 where
+  pub size : n ≤ 1024
+  pub many : others ≤ 512
+  pub start : other ≤ 512
+  pub words : 10240 ≤ work
+  pub lost-long : n ≤ lost
+  pub marks-long : n ≤ marks
+
+pub searchable-out : {n lost other others work marks : ℕ} → searchable? n lost other others work marks ≡ true → Searchable n lost other others work marks
+unfolding searchable?
+searchable-out {n} {lost} {other} {others} {work} {marks} fits =
+    let a = and-out _ (leb n marks) fits in
+    let b = and-out _ (leb n lost) (a .0) in
+    let d = and-out _ (leb 10240 work) (b .0) in
+    let e = and-out _ (leb other 512) (d .0) in
+    let f = and-out (leb n 1024) (leb others 512) (e .0) in
+    record {
+      size = leb-true _ _ (f .0);
+      many = leb-true _ _ (f .1);
+      start = leb-true _ _ (e .1);
+      words = leb-true _ _ (d .1);
+      lost-long = leb-true _ _ (b .1);
+      marks-long = leb-true _ _ (a .1);
+    }

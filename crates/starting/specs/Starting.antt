@@ -1,12 +1,13 @@
 -- The start of a half in the lists.
 --   openMark     the marks before the fixed qubits are known
---   fixedIn      the fixed qubits, of the other kind's rows in the lists
+--   fixedBy      the fixed qubits, of the other kind's rows in the lists; fixedIn: the same
 --   Keeps        what is kept of the half's own rows is right over the marks
 --   Saves        what is kept of the rows copied, and back: Restores
 --   PeeledFirst  whether the lost qubits peel away
 --   Searched     the fixed qubits marked
 --   Begun        the marks are the start's, and what is kept of the rows is right over them
---   Starts       the promise of `start` and of `search`
+--   Starts       the promise of `start`
+--   Opens        the promise of `open_marks`; Marks: of `mark_start`
 use mathlib.Core.Path.{_≡_}
 use mathlib.Core.Bool.{Bool, true, false, _&&_, cond}
 use mathlib.Core.List.{List}
@@ -28,8 +29,12 @@ use Rattle.kept.specs.Kept.{Kept, RowsOn}
 abbrev pub openMark : ℕ → List ℕ → ℕ → ℕ
 openMark n lost q = cond (listed n lost q) 4 0
 
+-- By the other kind's rows.
+abbrev pub fixedBy : ℕ → List ℕ → List ℕ → List ℕ → ℕ → ℕ → Qubits
+fixedBy n flat ends lost other others = fixed? n (rowsFrom flat ends other others) (listed n lost)
+
 abbrev pub fixedIn : ℕ → RowLists → List ℕ → ℕ → ℕ → Qubits
-fixedIn n c lost other others = fixed? n (rowsFrom (c .flat) (c .ends) other others) (listed n lost)
+fixedIn n c = fixedBy n (c .flat) (c .ends)
 
 pub record Keeps (n : ℕ) (c : RowLists) (work marks : List ℕ) : Type 0 where
   pub kept : Kept (isOpen (view n marks)) c work
@@ -67,13 +72,12 @@ pub record PeeledFirst (n : ℕ) (c : RowLists) (lost work work′ marks marks�
   pub saved : GoodRows n c → Saved n c marks′ work′
 
 -- From marks that have every lost qubit open.
-pub record Searched (n : ℕ) (c : RowLists) (lost : List ℕ) (other others : ℕ) (work work′ marks marks′ : List ℕ) : Type 0 where
+pub record Searched (n : ℕ) (flat ends lost : List ℕ) (other others : ℕ) (work work′ marks marks′ : List ℕ) : Type 0 where
   pub work-long : length work′ ≡ length work
   pub marks-long : length marks′ ≡ length marks
   pub rest : (q : ℕ) → n ≤ q → getD marks′ q 0 ≡ getD marks q 0
-  pub marked : ((q : ℕ) → q < n → getD marks q 0 ≡ openMark n lost q) → All (Ascending n) (rowsFrom (c .flat) (c .ends) other others)
-      → view n marks′ ≡ startMark (listed n lost) (fixedIn n c lost other others)
-  pub keeps : c .first + c .count ≤ length (c .lit) → c .first ≤ 512 → c .count ≤ 512 → GoodRows n c → Keeps n c work′ marks′
+  pub marked : ((q : ℕ) → q < n → getD marks q 0 ≡ openMark n lost q) → All (Ascending n) (rowsFrom flat ends other others)
+      → view n marks′ ≡ startMark (listed n lost) (fixedBy n flat ends lost other others)
 
 ----------------------------------------------------------------------
 -- The promise
@@ -97,3 +101,25 @@ pub record Starts (n : ℕ) (c : RowLists) (lost : List ℕ) (other others : ℕ
   pub refused : fitting n c lost other others work marks ≡ false → (work′ ≡ work) × (marks′ ≡ marks)
   pub begun : fitting n c lost other others work marks ≡ true → GoodRows n c → All (Ascending n) (rowsFrom (c .flat) (c .ends) other others)
       → Commute (rowsFrom (c .flat) (c .ends) (c .first) (c .count)) (rowsFrom (c .flat) (c .ends) other others) → Begun n c lost other others work′ marks′
+
+----------------------------------------------------------------------
+-- The marks alone
+
+-- Where the lists are long enough every lost qubit is marked open, as if none were fixed. Otherwise nothing is written.
+pub record Opens (n : ℕ) (lost marks marks′ : List ℕ) : Type 0 where
+  pub long : length marks′ ≡ length marks
+  pub opened : (leb n (length lost) && leb n (length marks)) ≡ true → Filled (openMark n lost) n marks marks′
+  pub refused : (leb n (length lost) && leb n (length marks)) ≡ false → marks′ ≡ marks
+
+-- Of the lengths of the lists.
+unfoldable pub searchable? : ℕ → ℕ → ℕ → ℕ → ℕ → ℕ → Bool
+searchable? n lost other others work marks = leb n 1024 && leb others 512 && leb other 512 && leb 10240 work && leb n lost && leb n marks
+
+-- Where sizes and lists fit, the marks are the start's. Otherwise nothing is written.
+pub record Marks (n : ℕ) (flat ends lost : List ℕ) (other others : ℕ) (work work′ marks marks′ : List ℕ) : Type 0 where
+  pub work-long : length work′ ≡ length work
+  pub marks-long : length marks′ ≡ length marks
+  pub rest : (q : ℕ) → n ≤ q → getD marks′ q 0 ≡ getD marks q 0
+  pub refused : searchable? n (length lost) other others (length work) (length marks) ≡ false → (work′ ≡ work) × (marks′ ≡ marks)
+  pub marked : searchable? n (length lost) other others (length work) (length marks) ≡ true → All (Ascending n) (rowsFrom flat ends other others)
+      → view n marks′ ≡ startMark (listed n lost) (fixedBy n flat ends lost other others)

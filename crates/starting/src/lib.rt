@@ -1,10 +1,10 @@
 // The start of a half: its marks, and what is kept of its rows over them. Peeling comes first, and the search for fixed qubits is made only where it
-// leaves a qubit. For a caller that peels by itself: the search at once.
+// leaves a qubit. For a caller that peels by itself: the marks alone, with no qubit fixed, or by the search at once.
 ghost use mathlib.Core.Path.{_≡_};
 ghost use Prim.Native.Nat.{_+_, _≤_};
 ghost use lib.ListN.{length};
 ghost use Rattle.lists.specs.Filled.{Filled};
-ghost use Rattle.starting.specs.Starting.{openMark, Saves, Restores, PeeledFirst, Searched, fits?, Starts};
+ghost use Rattle.starting.specs.Starting.{openMark, Saves, Restores, PeeledFirst, Searched, fits?, Starts, Opens, searchable?, Marks};
 use code::Rows;
 
 // Each lost qubit is marked open, each other one not lost.
@@ -67,24 +67,21 @@ fn peel_first(
     away
 }
 
-// The fixed qubits are found, and marked; then the rows are kept anew.
+// The fixed qubits are found, and marked.
 fn search_fixed(
     n: u16,
     flat: &[u16],
     ends: &[u16],
     lost: &[u8],
-    lit: &[u8],
-    own: Rows,
     others: Rows,
     work: &mut [u64],
     marks: &mut [u8],
 )
     requires { ⌜ (n ≤ 1024) × (others .count ≤ 512) × (others .first .0 ≤ 512) × (10240 ≤ length (now work)) × (n ≤ length (now lost)) × (n ≤ length (now marks)) ⌝ }
-    ensures { λ _. ⌜ Searched n (record { flat = now (flat .entry); ends = now (ends .entry); lit = now (lit .entry); first = own .first .0; count = own .count }) (now (lost .entry)) (others .first .0) (others .count) (now (work .entry)) (now (work .exit)) (now (marks .entry)) (now (marks .exit)) ⌝ }
+    ensures { λ _. ⌜ Searched n (now (flat .entry)) (now (ends .entry)) (now (lost .entry)) (others .first .0) (others .count) (now (work .entry)) (now (work .exit)) (now (marks .entry)) (now (marks .exit)) ⌝ }
 {
     packing::pack_rows(n, flat, ends, others, work);
     search::mark_fixed(n, others.count as usize, lost, work, marks);
-    filling::fill(n, flat, ends, lit, own, marks, work);
 }
 
 // Whether the sizes are document 01's and the lists long enough.
@@ -112,27 +109,6 @@ fn fits(
     shot & (last <= lit.len()) & (size <= marks.len())
 }
 
-// The start by the search at once, for a half of which peeling is known to leave a qubit.
-pub fn search(
-    n: u16,
-    flat: &[u16],
-    ends: &[u16],
-    lost: &[u8],
-    lit: &[u8],
-    own: Rows,
-    others: Rows,
-    work: &mut [u64],
-    marks: &mut [u8],
-)
-    ensures { λ _. ⌜ Starts n (record { flat = now (flat .entry); ends = now (ends .entry); lit = now (lit .entry); first = own .first .0; count = own .count }) (now (lost .entry)) (others .first .0) (others .count) (now (work .entry)) (now (work .exit)) (now (marks .entry)) (now (marks .exit)) ⌝ }
-{
-    if !fits(n, lost, lit, own, others, work, marks) {
-        return;
-    }
-    start_marks(n as usize, lost, marks);
-    search_fixed(n, flat, ends, lost, lit, own, others, work, marks);
-}
-
 // The marks of the start: fixed qubits are settled, all other lost ones open. The work list has what is kept of the half's own rows. Nothing is written where
 // sizes or lists do not fit.
 pub fn start(
@@ -155,5 +131,45 @@ pub fn start(
         restore(own.count as usize, work);
         return;
     }
-    search_fixed(n, flat, ends, lost, lit, own, others, work, marks);
+    search_fixed(n, flat, ends, lost, others, work, marks);
+    filling::fill(n, flat, ends, lit, own, marks, work);
+}
+
+// Each lost qubit is marked open, as if none were fixed. Nothing is written where a list is short.
+pub fn open_marks(n: u16, lost: &[u8], marks: &mut [u8])
+    ensures { λ _. ⌜ Opens n (now (lost .entry)) (now (marks .entry)) (now (marks .exit)) ⌝ }
+{
+    let size = n as usize;
+    if (size <= lost.len()) & (size <= marks.len()) {
+        start_marks(size, lost, marks);
+    }
+}
+
+// Whether sizes and lists fit for the search.
+fn can_search(n: u16, lost: &[u8], others: Rows, work: &[u64], marks: &[u8]) -> bool
+    ensures { λ r. ⌜ r ≡ searchable? n (length (now (lost .entry))) (others .first .0) (others .count) (length (now (work .entry))) (length (now (marks .entry))) ⌝ }
+{
+    let size = n as usize;
+    let other = others.first;
+    let small = (n <= 1024) & (others.count <= 512) & (other.0 <= 512);
+    small & (10240 <= work.len()) & (size <= lost.len()) & (size <= marks.len())
+}
+
+// The marks of the start by the search at once, for a half of which peeling is known to leave a qubit. Nothing is written where sizes or lists do not fit.
+pub fn mark_start(
+    n: u16,
+    flat: &[u16],
+    ends: &[u16],
+    lost: &[u8],
+    others: Rows,
+    work: &mut [u64],
+    marks: &mut [u8],
+)
+    ensures { λ _. ⌜ Marks n (now (flat .entry)) (now (ends .entry)) (now (lost .entry)) (others .first .0) (others .count) (now (work .entry)) (now (work .exit)) (now (marks .entry)) (now (marks .exit)) ⌝ }
+{
+    if !can_search(n, lost, others, work, marks) {
+        return;
+    }
+    start_marks(n as usize, lost, marks);
+    search_fixed(n, flat, ends, lost, others, work, marks);
 }

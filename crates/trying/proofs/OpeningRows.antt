@@ -11,10 +11,10 @@ use Rattle.binary.proofs.Bits.{bit}
 use Rattle.machine.specs.Machine.{put, part}
 use Rattle.scans.specs.Rows.{RowLists, rowsIn, read?}
 use Rattle.scans.proofs.Checks.{here, was-read}
-use Rattle.kept.specs.Kept.{rowIn, Raised}
+use Rattle.kept.specs.Kept.{rowIn, Numbered, Raised}
 use Rattle.kept.proofs.Raising.{one-more, open-few}
 use Rattle.filling.proofs.KeptQubits.{Own, Other, own-or-other, has-at}
-use Rattle.trying.specs.Entries.{Entry, entryIn, entryOf, Tracks, EntryPut, opened, RowOpened, RowsOpened}
+use Rattle.trying.specs.Entries.{Entry, entryIn, entryOf, HasEntries, EntryPut, opened, RowOpened, RowsOpened}
 use Rattle.trying.proofs.RowNumbers.{open-off, open-on}
 use Rattle.trying.proofs.WritingNumbers.{number-put, element-put}
 use Rattle.trying.proofs.OnQubit.{OnQubit, unread-same, once, are, off-row, own-ascending, own-distinct}
@@ -37,7 +37,8 @@ module _ (q r first count : ℕ) (lit old : List ℕ) where
     put-own : getD old (8704 + (r - first)) 0 < 1024 → Put (r - first)
     put-own less =
         let i = r - first in
-        let v = number-put i (getD old (8704 + i) 0 + 1) old mid (raise .raised (omega arith) (omega arith) less) (raise .past) in
+        let more : getD old (8704 + i) 0 % 1024 + 1 ≡ getD old (8704 + i) 0 + 1 = omega arith in
+        let v = number-put i (getD old (8704 + i) 0 + 1) old mid (subst (λ (y : ℕ). Numbered i y old mid) more (raise .raised (omega arith) (omega arith))) (raise .past) in
         let same = raise .past (9216 + i) (omega arith) in
         rw same (element-put i _ old mid v (omega arith) 18 ((getD old (9216 + i) 0 % 65536 + q) % 65536) (omega arith) (omega (arith, raise .long)))
 
@@ -57,11 +58,14 @@ pub record Given (n q : ℕ) (on : List ℕ) (c : RowLists) (o x : Qubits) (work
   pub rows : OnQubit n q on c
   pub size : n ≤ 1024
   pub shut : o q ≡ false
-  pub tracks : Tracks o x c work₀
+  pub entries : HasEntries o x c work₀
 
--- Nothing is asked of a row beside its numbers.
+-- Nothing is asked of a row beside its numbers, and nothing of the list.
+abbrev Any : {A : Type 0} → A → Type 0
+Any y = Unit {0}
+
 abbrev Walk : ℕ → RowLists → Qubits → Qubits → List ℕ → List ℕ → Type 0
-Walk q c o x = Walking (c .first) (c .count) (λ j. entryOf o x (rowIn c j)) (λ j. entryOf (put q true o) x (rowIn c j)) (λ j. Unit {0})
+Walk q c o x = Walking (c .first) (c .count) (λ j. entryOf o x (rowIn c j)) (λ j. entryOf (put q true o) x (rowIn c j)) Any Any
 
 module _ (n q : ℕ) (on : List ℕ) (c : RowLists) (o x : Qubits) (work₀ : List ℕ) (g : Given n q on c o x work₀) (few : c .count ≤ 512) where
   abbrev before : ℕ → Entry
@@ -70,27 +74,24 @@ module _ (n q : ℕ) (on : List ℕ) (c : RowLists) (o x : Qubits) (work₀ : Li
   abbrev after : ℕ → Entry
   after j = entryOf (put q true o) x (rowIn c j)
 
-  abbrev Any : ℕ → Type 0
-  Any j = Unit {0}
-
   begun : Walk q c o x on work₀
   begun =
-      walk-start (c .first) (c .count) before after Any on work₀ (once n q on c (g .rows)) (g .tracks .entries) (g .tracks .tallied)
+      walk-start (c .first) (c .count) before after Any Any on work₀ (once n q on c (g .rows)) (g .entries) tt
       (λ j h e. (open-off o x q (rowIn c j) (g .shut) (off-row n q on c (g .rows) j h e), tt))
 
   -- The row at hand.
   module _ (r : ℕ) (rest work : List ℕ) (s : Walk q c o x (r ∷ rest) work) (on-it : has on r ≡ true) (work′ : List ℕ)
       (v : RowOpened q r (c .first) (c .count) (c .lit) work work′) where
     other : Other (c .first) (c .count) (c .lit) r → Walk q c o x rest work′
-    other f = rw (v .passes f) (walk-other (c .first) (c .count) before after Any r rest work s (λ j h e. (unread-same (was-read c j) (here c j .row) o x (put q true o) x (unread j h e), tt)))
+    other f = rw (v .passes f) (walk-other (c .first) (c .count) before after Any Any r rest work s (λ j h e. (unread-same (was-read c j) (here c j .row) o x (put q true o) x (unread j h e), tt)))
       where
         unread : (j : ℕ) → j < c .count → r ≡ c .first + j → was-read c j ≡ false
         unread j h e = bit (was-read c j) (λ t. absurd (f j (record { is = e; within = h; read = rw e t }))) (λ t. t)
 
     own : Own (c .first) (c .count) (c .lit) r → Walk q c o x rest work′
     own a =
-        walk-own (c .first) (c .count) before after Any r rest work s i is h few work′
-        (subst (λ (y : Entry). EntryPut i y work work′) made (v .opens i (a .1) (let z = g .size in omega (arith, number, more, bound)))) tt
+        walk-own (c .first) (c .count) before after Any Any r rest work s i is h few work′
+        (subst (λ (y : Entry). EntryPut i y work work′) made (v .opens i (a .1) (let z = g .size in omega (arith, number, more, bound)))) (λ k. tt) tt
       where
         i : ℕ
         i = a .0
@@ -108,7 +109,7 @@ module _ (n q : ℕ) (on : List ℕ) (c : RowLists) (o x : Qubits) (work₀ : Li
         has-it = sym (are n q on c (g .rows) i h) ∙ subst (λ (y : ℕ). has on y ≡ true) is on-it
 
         now : entryIn work i ≡ entryOf o x (here c i .row)
-        now = walk-now (c .first) (c .count) before after Any r rest work s i is h few ∙ ap (entryOf o x) row-is
+        now = walk-now (c .first) (c .count) before after Any Any r rest work s i is h few ∙ ap (entryOf o x) row-is
 
         number : getD work (8704 + i) 0 ≡ length (part o (here c i .row))
         number = ap (λ (y : Entry). y .number) now
@@ -151,9 +152,9 @@ module _ (q : ℕ) (on : List ℕ) (first count : ℕ) (lit work₀ : List ℕ) 
     opening-end l =
         record {
           long = s .long;
-          opens = λ flat ends listed same n size small good o x shut tracks.
-              let g : Given n q on (rows flat ends) o x work₀ = record { rows = record { good = good; small = small; listed = listed; rows-on = same }; size = size; shut = shut; tracks = tracks } in
-              let w = walk-end first count (before n q on (rows flat ends) o x work₀ g few) (after n q on (rows flat ends) o x work₀ g few) (λ j. Unit {0}) work
+          opens = λ flat ends listed same n size small good o x shut entries.
+              let g : Given n q on (rows flat ends) o x work₀ = record { rows = record { good = good; small = small; listed = listed; rows-on = same }; size = size; shut = shut; entries = entries } in
+              let w = walk-end first count (before n q on (rows flat ends) o x work₀ g few) (after n q on (rows flat ends) o x work₀ g few) Any Any work
               (subst (λ (y : List ℕ). Walk q (rows flat ends) o x y work) (drop-of-length-le on l) (s .so n flat ends o x g)) in
-              record { entries = w .0; tallied = w .1 };
+              w .0;
         }

@@ -1,17 +1,20 @@
 -- The lowest dangling row by the numbers of the rows gives its open qubit its side: a turn of the machine. Assumes nothing.
 use mathlib.Core.Path.{_≡_, refl, sym, ap, _∙_, fun-ext}
 use mathlib.Core.Bool.{Bool, true, false, _&&_, cond}
+use mathlib.Core.Logic.{_⊎_, inl, inr}
 use mathlib.Core.Option.{none, some}
 use mathlib.Core.List.{List, [], _∷_}
 use Prim.Native.Nat.{ℕ, zero, suc, _+_, _%_, _≤_, _<_}
 use native.Mathlib.Omega.{arith}
 use lib.Dec.{eqb, eqb·suc-zero}
-use lib.ListN.{length, getD}
-use borrow.Author.Tests.{eqb-true, eq-eqb}
+use lib.ListN.{length, getD, List·getD-eq-default}
+use lib.Seq.{getD-set-same, getD-set-other}
+use borrow.Author.Tests.{eqb-true, eqb-false, eq-eqb}
 use Rattle.binary.specs.Bits.{_⊕_}
 use Rattle.binary.specs.Meaning.{Qubits, has, odd}
 use Rattle.binary.proofs.Bits.{bit, never, and-out, &&-true, &&-false}
 use Rattle.binary.proofs.Weights.{tally-up}
+use Rattle.binary.proofs.WordBits.{order}
 use Rattle.machine.specs.Machine.{Form, Forms, on, isOpen, put, part, closed?, side, dangling, takeIf, takeUpAll, closing, stage}
 use Rattle.machine.specs.Report.{marked}
 use Rattle.machine.specs.Lists.{view, formsOf, digit, lit?}
@@ -20,7 +23,7 @@ use Rattle.machine.proofs.Stages.{open-put}
 use Rattle.forms.specs.Forms.{withLive}
 use Rattle.scans.specs.Rows.{RowLists, rowsIn, rowChecks}
 use Rattle.scans.proofs.Checks.{here, was-read}
-use Rattle.scans.proofs.Scanning.{open-below}
+use Rattle.scans.proofs.Scanning.{open-read, open-below}
 use Rattle.kept.specs.Kept.{dangles?, Kept, Lowest}
 use Rattle.kept.proofs.Same.{kept-by}
 use Rattle.kept.proofs.Dangling.{dangling-none, row-is, dangling-only}
@@ -32,7 +35,7 @@ use Rattle.turns.proofs.Turning.{closing-test}
 use Rattle.turns.proofs.Stays.{stays-same}
 use Rattle.trying.specs.declared.Peel.the-variants.{Unknown, NoRow, Made}
 use Rattle.trying.specs.Entries.{Entry, entryIn, entryOf, Tracks}
-use Rattle.trying.specs.Turns.{valuesOf, Ready, SettledAs, QubitSettled, PeeledAs, Peels}
+use Rattle.trying.specs.Turns.{valuesOf, Ready, SettledAs, QubitSettled, reopened, PeeledAs, Peels}
 
 pub kept-of : (o x : Qubits) (c : RowLists) (work : List ℕ) → Tracks o x c work → Kept o c work
 kept-of o x c work t = kept-by o c work (λ i h. ap (λ (e : Entry). e .number) (t .entries i h)) (t .tallied)
@@ -130,20 +133,47 @@ module _ (n : ℕ) (c : RowLists) (old : Working) (r : ℕ) (low : Lowest (c .co
             marks q = ap (λ (f : ℕ → ℕ). isOpen f q) (s .marks)
 
         peeled-as : PeeledAs n c old new
-        peeled-as = record { dangles = rw found; comes = comes; fewer = fewer; ready = s .ready }
+        peeled-as = record {
+          dangles = rw found;
+          comes = comes;
+          fewer = fewer;
+          fixed = λ q. ap (λ (f : ℕ → ℕ). eqb (f q) 1) (s .marks) ∙ bit (eqb p q) (λ e. rw e (sym (was-open q (eqb-true p q e)))) (λ e. rw e);
+          ready = s .ready;
+        }
+          where
+            was-open : (q : ℕ) → p ≡ q → eqb (view n (old .marks) q) 1 ≡ false
+            was-open q e = ap (λ (m : ℕ). eqb m 1) (ap (view n (old .marks)) (sym e) ∙ eqb-true (view n (old .marks) p) 4 is-open)
 
 ----------------------------------------------------------------------
 -- The answer of a turn
 
 module _ (n : ℕ) (ends lit : List ℕ) (first count : ℕ) (old : Working) where
-  pub peels-unknown : (new : Working) → Stays n old new → Peels n ends lit first count old new Unknown
-  peels-unknown new s = record { stays = s; no-row = λ e. let z : _≡_ {A = Bool} true false = cc in never refl z; made = λ e. let z : _≡_ {A = Bool} true false = cc in never refl z }
+  pub peels-unknown : (new : Working) → Stays n old new → ((q : ℕ) → reopened (getD (new .marks) q 0) ≡ reopened (getD (old .marks) q 0)) → Peels n ends lit first count old new Unknown
+  peels-unknown new s m = record { stays = s; marks = m; idle = λ e. let z : _≡_ {A = Bool} true false = cc in never refl z; no-row = λ e. let z : _≡_ {A = Bool} true false = cc in never refl z; made = λ e. let z : _≡_ {A = Bool} true false = cc in never refl z }
+
+  -- The mark of an open qubit is another, and opens again.
+  pub settled-marks : (p v : ℕ) (new : Working) (told : Bool) → isOpen (view n (old .marks)) p ≡ true → QubitSettled n ends lit first count p v old new told
+      → (q : ℕ) → reopened (getD (new .marks) q 0) ≡ reopened (getD (old .marks) q 0)
+  settled-marks p v new told is-open s q =
+      rw (s .mark)
+      (bit (eqb p q)
+      (λ e. let d = eqb-true p q e in rw (← d, was, getD-set-same (old .marks) p 2 0 (inside (order p (length (old .marks))))))
+      (λ e. ap reopened (getD-set-other (old .marks) p q 2 0 (λ t. eqb-false p q e (sym t)))))
+    where
+      was : getD (old .marks) p 0 ≡ 4
+      was = eqb-true (getD (old .marks) p 0) 4 (open-read n (old .marks) p (open-below n (old .marks) p is-open) ∙ is-open)
+
+      inside : (p < length (old .marks)) ⊎ (length (old .marks) ≤ p) → p < length (old .marks)
+      inside (inl h) = h
+      inside (inr h) = let z : _≡_ {A = ℕ} 0 4 = sym (List·getD-eq-default {A = ℕ} (old .marks) 0 h) ∙ was in absurd (omega arith)
 
   module _ (r : ℕ) (low : Lowest count (old .work) r) (long : 10240 ≤ length (old .work)) where
     pub peels-none : count ≤ r → Peels n ends lit first count old old NoRow
     peels-none h =
         record {
           stays = stays-same n old;
+          marks = λ q. refl;
+          idle = λ e. refl;
           no-row = λ e flat good ready. none-dangles n (rowsIn flat ends first count lit) old r low long ready h;
           made = λ e. let z : _≡_ {A = Bool} true false = cc in never refl z;
         }
@@ -154,6 +184,8 @@ module _ (n : ℕ) (ends lit : List ℕ) (first count : ℕ) (old : Working) whe
     peels-made h size p v lights is-sum value lit-bit is-open new told t s =
         record {
           stays = s .stays;
+          marks = settled-marks p v new told is-open s;
+          idle = λ e. let z : _≡_ {A = Bool} true false = cc in never refl z;
           no-row = λ e. let z : _≡_ {A = Bool} true false = cc in never refl z;
           made = λ e flat good ready.
               peeled-as n (rowsIn flat ends first count lit) old r low long ready h size p v is-sum (value ∙ ap (λ (y : ℕ). (getD (old .work) (9728 + r) 0 % 2 + y) % 2) lit-bit) (open-below n (old .marks) p is-open) is-open new (s .settles t flat good ready is-open);

@@ -30,7 +30,7 @@ module _ (n : ℕ) (ends lit : List ℕ) (first count p v : ℕ) (old : Working)
   stays work′ e = record { marks-long = length-set (old .marks) p 2; forms-long = w .long; work-long = e; marks-rest = rest-set n (old .marks) p 2 below; forms-rest = w .rest }
 
   pub settled-not : QubitSettled n ends lit first count p v old (with-work (old .work)) false
-  settled-not = record { stays = stays (old .work) refl; settles = λ t. never t refl }
+  settled-not = record { stays = stays (old .work) refl; mark = refl; settles = λ t. never t refl }
 
   abbrev o : Qubits
   o = isOpen (view n (old .marks))
@@ -73,7 +73,6 @@ module _ (n : ℕ) (ends lit : List ℕ) (first count p v : ℕ) (old : Working)
             tracks = subst (λ (s : Qubits). Tracks s (valuesOf n forms′) c work′) (sym open-are) (subst (λ (s : Qubits). Tracks (put p false o) s c work′) (sym values-are) (z .0));
             topped = topped-then;
             blank = blank-then;
-            unfixed = unmarked 1 refl (ready .unfixed);
             unguessed = unmarked 3 refl (ready .unguessed);
           };
           marks = marks-are;
@@ -86,6 +85,7 @@ module _ (n : ℕ) (ends lit : List ℕ) (first count p v : ℕ) (old : Working)
   qubit-settled size listed on same work′ told s =
       record {
         stays = stays work′ (s .long);
+        mark = refl;
         settles = λ t flat good ready is-open.
             settled-as (rowsIn flat ends first count lit) ready is-open work′
             (s .settles t flat ends (listed-out ends p listed .1) same n size below good o x is-open (ready .blank p is-open) (ready .tracks));

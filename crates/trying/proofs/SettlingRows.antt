@@ -7,6 +7,7 @@ use Prim.Native.Nat.{ℕ, _+_, _-_, _%_, _≤_, _<_}
 use native.Mathlib.Omega.{arith}
 use lib.Dec.{eqb}
 use lib.ListN.{length, getD, set, drop, drop-of-length-le, length-set}
+use lib.Seq.{getD-set-other}
 use borrow.Author.Tests.{eqb-true}
 use Rattle.binary.specs.Meaning.{Qubits, Row, has, odd}
 use Rattle.binary.proofs.Bits.{bit, never}
@@ -15,7 +16,8 @@ use Rattle.machine.specs.Machine.{put, part, closed?}
 use Rattle.machine.specs.Lists.{digit, lit?}
 use Rattle.scans.specs.Rows.{RowLists, rowsIn}
 use Rattle.scans.proofs.Checks.{here, was-read}
-use Rattle.kept.specs.Kept.{rowIn, Numbered, Lowered}
+use Rattle.kept.specs.Kept.{rowIn, Tallied, Numbered, Retallied, Lowered}
+use Rattle.kept.proofs.Same.{tallied-same}
 use Rattle.kept.proofs.Lowering.{one-less}
 use Rattle.filling.proofs.KeptQubits.{has-at}
 use Rattle.closing.proofs.TakingRows.{length-empty}
@@ -46,7 +48,7 @@ module _ (first count : ℕ) (work : List ℕ) (r : ℕ) where
 
 module _ (p value r first count : ℕ) (lit old : List ℕ) where
   pub row-passed : Other first count old r → RowSettled p value r first count lit old old true
-  row-passed f = record { long = refl; settles = λ i a. absurd (f i a); reads = λ t i a. absurd (f i a); passes = λ g. refl }
+  row-passed f = record { long = refl; settles = λ i a. absurd (f i a); tallied = λ i a. absurd (f i a); reads = λ t i a. absurd (f i a); passes = λ g. refl }
 
   pub row-closed : getD old (8704 + (r - first)) 0 ≡ 0 → RowSettled p value r first count lit old old true
   row-closed e = row-passed (λ i a. let d : i ≡ r - first = omega (arith, a .is) in omega (arith, e, rw d at (a .some-open)))
@@ -65,7 +67,7 @@ module _ (p value r first count : ℕ) (lit old : List ℕ) where
     abbrev Put : ℕ → Type 0
     Put i = EntryPut i (settled p value (entryIn old i)) old new
 
-    lowered : (left + 1 ≡ getD old (8704 + (r - first)) 0) × Numbered (r - first) left old mid
+    lowered : (left + 1 ≡ getD old (8704 + (r - first)) 0) × Numbered (r - first) left old mid × Retallied (r - first) old mid
     lowered = low .lowered (omega arith) (omega arith) (omega arith)
 
     parity-was : getD mid (9728 + (r - first)) 0 ≡ getD old (9728 + (r - first)) 0
@@ -82,11 +84,19 @@ module _ (p value r first count : ℕ) (lit old : List ℕ) where
         subst (λ (f : Entry). EntryPut i f old new) (λ j. record { number = less j; sum = (sum-was j % 65536 + 65536 - p) % 65536; parity = (parity-was j % 2 + value) % 2 })
         (element-put i _ old (set mid (9216 + i) sum) w (omega arith) 19 parity (omega arith) (omega (arith, low .long, length-set mid (9216 + i) sum)))
 
+    beside : (k : ℕ) → k < 9216 → getD new k 0 ≡ getD mid k 0
+    beside k h =
+        getD-set-other (set mid (9216 + (r - first)) sum) (9728 + (r - first)) k parity 0 (λ e. omega arith) ∙ getD-set-other mid (9216 + (r - first)) k sum 0 (λ e. omega arith)
+
+    retallied : Retallied (r - first) old new
+    retallied n h k t = tallied-same n mid new h (λ j u. beside (8192 + j) (omega arith)) (λ j u. beside (8704 + j) (omega arith)) (lowered .2 n h k t)
+
     pub row-settled : (told : Bool) → (told ≡ true → left ≡ 0 → parity ≡ digit (lit? (getD lit r 0))) → RowSettled p value r first count lit old new told
     row-settled told reads =
         record {
           long = length-set (set mid (9216 + (r - first)) sum) (9728 + (r - first)) parity ∙ length-set mid (9216 + (r - first)) sum ∙ low .long;
           settles = λ i a. let d : r - first ≡ i = omega (arith, a .is) in subst Put d put-own;
+          tallied = λ i a. let d : r - first ≡ i = omega (arith, a .is) in subst (λ (y : ℕ). Retallied y old new) d retallied;
           reads = λ u i a none-left.
               let d : i ≡ r - first = omega (arith, a .is) in
               let z = lowered in
@@ -112,7 +122,7 @@ Right p c o x i = was-read c i ≡ true → has (here c i .row) p ≡ true → c
 
 abbrev Walk : ℕ → ℕ → RowLists → Qubits → Qubits → List ℕ → List ℕ → Type 0
 Walk p value c o x =
-    Walking (c .first) (c .count) (λ j. entryOf o x (rowIn c j)) (λ j. entryOf (put p false o) (put p (eqb value 1) x) (rowIn c j)) (Right p c (put p false o) (put p (eqb value 1) x))
+    Walking (c .first) (c .count) (λ j. entryOf o x (rowIn c j)) (λ j. entryOf (put p false o) (put p (eqb value 1) x) (rowIn c j)) (Right p c (put p false o) (put p (eqb value 1) x)) (Tallied (c .count))
 
 module _ (n p value : ℕ) (on : List ℕ) (c : RowLists) (o x : Qubits) (work₀ : List ℕ) (g : Given n p value on c o x work₀) (few : c .count ≤ 512) where
   abbrev o′ : Qubits
@@ -129,7 +139,7 @@ module _ (n p value : ℕ) (on : List ℕ) (c : RowLists) (o x : Qubits) (work�
 
   begun : Walk p value c o x on work₀
   begun =
-      walk-start (c .first) (c .count) before after (Right p c o′ x′) on work₀ (once n p on c (g .rows)) (g .tracks .entries) (g .tracks .tallied)
+      walk-start (c .first) (c .count) before after (Right p c o′ x′) (Tallied (c .count)) on work₀ (once n p on c (g .rows)) (g .tracks .entries) (g .tracks .tallied)
       (λ j h e. (settle-off o x p value (rowIn c j) (off-row n p on c (g .rows) j h e), λ t has-it. never has-it (sym (are n p on c (g .rows) j h) ∙ e)))
 
   -- The row at hand.
@@ -141,7 +151,7 @@ module _ (n p value : ℕ) (on : List ℕ) (c : RowLists) (o x : Qubits) (work�
       has-it = sym (are n p on c (g .rows) i h) ∙ subst (λ (y : ℕ). has on y ≡ true) is on-it
 
       now : entryIn work i ≡ before i
-      now = walk-now (c .first) (c .count) before after (Right p c o′ x′) r rest work s i is h few
+      now = walk-now (c .first) (c .count) before after (Right p c o′ x′) (Tallied (c .count)) r rest work s i is h few
 
       less : was-read c i ≡ true → getD work (8704 + i) 0 ≡ 1 + length (part o′ (here c i .row))
       less t =
@@ -152,7 +162,7 @@ module _ (n p value : ℕ) (on : List ℕ) (c : RowLists) (o x : Qubits) (work�
 
     other : Other (c .first) (c .count) work r → Walk p value c o x rest work′
     other f =
-        rw (w .passes f) (walk-other (c .first) (c .count) before after (Right p c o′ x′) r rest work s
+        rw (w .passes f) (walk-other (c .first) (c .count) before after (Right p c o′ x′) (Tallied (c .count)) r rest work s
         (λ j h e. (unread-same (was-read c j) (here c j .row) o x o′ x′ (unread j h e), λ t. never t (unread j h e))))
       where
         unread : (j : ℕ) → j < c .count → r ≡ c .first + j → was-read c j ≡ false
@@ -160,8 +170,8 @@ module _ (n p value : ℕ) (on : List ℕ) (c : RowLists) (o x : Qubits) (work�
 
     own : Own (c .first) (c .count) work r → Walk p value c o x rest work′
     own a =
-        walk-own (c .first) (c .count) before after (Right p c o′ x′) r rest work s i is h few work′
-        (subst (λ (y : Entry). EntryPut i y work work′) made (w .settles i (a .1))) right
+        walk-own (c .first) (c .count) before after (Right p c o′ x′) (Tallied (c .count)) r rest work s i is h few work′
+        (subst (λ (y : Entry). EntryPut i y work work′) made (w .settles i (a .1))) (w .tallied i (a .1) (c .count) few h) right
       where
         i : ℕ
         i = a .0
@@ -230,7 +240,7 @@ module _ (p value : ℕ) (on : List ℕ) (first count : ℕ) (lit work₀ : List
               let g : Given n p value on (rows flat ends) o x work₀ =
               record { rows = record { good = good; small = small; listed = listed; rows-on = same }; size = size; bit-value = bound; was-open = was-open; blank = blank; tracks = tracks } in
               let w = walk-end first count (before n p value on (rows flat ends) o x work₀ g few) (after n p value on (rows flat ends) o x work₀ g few)
-              (Right p (rows flat ends) (put p false o) (put p (eqb value 1) x)) work
+              (Right p (rows flat ends) (put p false o) (put p (eqb value 1) x)) (Tallied count) work
               (subst (λ (y : List ℕ). Walk p value (rows flat ends) o x y work) (drop-of-length-le on l) (s .so n flat ends o x g)) in
               (record { entries = w .0; tallied = w .1 }, w .2);
         }

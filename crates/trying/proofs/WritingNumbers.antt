@@ -11,23 +11,18 @@ use lib.Seq.{getD-set-same, getD-set-other}
 use borrow.Author.Tests.{eqb-true, eqb-false}
 use Rattle.binary.proofs.Bits.{bit}
 use Rattle.kept.specs.Kept.{Numbered}
-use Rattle.kept.proofs.Same.{tallied-same}
 use Rattle.trying.specs.Entries.{Entry, entryIn, EntryPut}
 use Rattle.trying.proofs.RowNumbers.{same-entry}
 
--- The number of open qubits, with all that goes with it.
+-- The number of open qubits.
 pub number-put : (i number : ℕ) (old mid : List ℕ) → Numbered i number old mid → ((k : ℕ) → 9216 ≤ k → getD mid k 0 ≡ getD old k 0)
     → EntryPut i (record { number = number; sum = getD old (9216 + i) 0; parity = getD old (9728 + i) 0 }) old mid
-number-put i number old mid v past =
-    record {
-      entries = λ j h.
-          bit (eqb i j)
-          (λ e. let s = eqb-true i j e in
-          rw e (same-entry (entryIn mid j) (record { number = number; sum = getD old (9216 + i) 0; parity = getD old (9728 + i) 0 }) (v .counts j h ∙ rw e)
-          (past (9216 + j) (omega arith) ∙ rw s) (past (9728 + j) (omega arith) ∙ rw s)))
-          (λ e. rw e (same-entry (entryIn mid j) (entryIn old j) (v .counts j h ∙ rw e) (past (9216 + j) (omega arith)) (past (9728 + j) (omega arith))));
-      tallied = v .tallied;
-    }
+number-put i number old mid v past j h =
+    bit (eqb i j)
+    (λ e. let s = eqb-true i j e in
+    rw e (same-entry (entryIn mid j) (record { number = number; sum = getD old (9216 + i) 0; parity = getD old (9728 + i) 0 }) (v j h ∙ rw e)
+    (past (9216 + j) (omega arith) ∙ rw s) (past (9728 + j) (omega arith) ∙ rw s)))
+    (λ e. rw e (same-entry (entryIn mid j) (entryIn old j) (v j h ∙ rw e) (past (9216 + j) (omega arith)) (past (9728 + j) (omega arith))))
 
 ----------------------------------------------------------------------
 -- Then the sum, or the parity
@@ -49,9 +44,6 @@ module _ (i : ℕ) (e : Entry) (old mid : List ℕ) (v : EntryPut i e old mid) (
   abbrev new : List ℕ
   new = set mid (512 * b + i) x
 
-  beside : (k : ℕ) → k < 9216 → getD new k 0 ≡ getD mid k 0
-  beside k h = getD-set-other mid (512 * b + i) k x 0 (λ t. omega arith)
-
   -- Row j's number of kind m.
   at : (m j : ℕ) → j < 512 → getD new (512 * m + j) 0 ≡ cond (eqb b m && eqb i j) x (getD mid (512 * m + j) 0)
   at m j h = set-at mid b i x m j few h inside
@@ -65,18 +57,14 @@ module _ (i : ℕ) (e : Entry) (old mid : List ℕ) (v : EntryPut i e old mid) (
   other false y = refl
 
   pub element-put : EntryPut i (with-number b x e) old new
-  element-put = record {
-    entries = λ j h.
-        bit (eqb i j)
-        (λ t. let w : entryIn mid j ≡ e = v .entries j h ∙ rw t in
-        rw t (same-entry (entryIn new j) (with-number b x e)
-        (at 17 j h ∙ rw t (own (eqb b 17) (getD mid (8704 + j) 0) (e .number) (ap (λ (y : Entry). y .number) w)))
-        (at 18 j h ∙ rw t (own (eqb b 18) (getD mid (9216 + j) 0) (e .sum) (ap (λ (y : Entry). y .sum) w)))
-        (at 19 j h ∙ rw t (own (eqb b 19) (getD mid (9728 + j) 0) (e .parity) (ap (λ (y : Entry). y .parity) w)))))
-        (λ t. rw t (same-entry (entryIn new j) (entryIn mid j)
-        (at 17 j h ∙ rw t (other (eqb b 17) (getD mid (8704 + j) 0)))
-        (at 18 j h ∙ rw t (other (eqb b 18) (getD mid (9216 + j) 0)))
-        (at 19 j h ∙ rw t (other (eqb b 19) (getD mid (9728 + j) 0))) ∙ v .entries j h ∙ rw t));
-    tallied = λ count h l t.
-        tallied-same count mid new h (λ j m. beside (8192 + j) (omega arith)) (λ j m. beside (8704 + j) (omega arith)) (v .tallied count h l t);
-  }
+  element-put j h =
+      bit (eqb i j)
+      (λ t. let w : entryIn mid j ≡ e = v j h ∙ rw t in
+      rw t (same-entry (entryIn new j) (with-number b x e)
+      (at 17 j h ∙ rw t (own (eqb b 17) (getD mid (8704 + j) 0) (e .number) (ap (λ (y : Entry). y .number) w)))
+      (at 18 j h ∙ rw t (own (eqb b 18) (getD mid (9216 + j) 0) (e .sum) (ap (λ (y : Entry). y .sum) w)))
+      (at 19 j h ∙ rw t (own (eqb b 19) (getD mid (9728 + j) 0) (e .parity) (ap (λ (y : Entry). y .parity) w)))))
+      (λ t. rw t (same-entry (entryIn new j) (entryIn mid j)
+      (at 17 j h ∙ rw t (other (eqb b 17) (getD mid (8704 + j) 0)))
+      (at 18 j h ∙ rw t (other (eqb b 18) (getD mid (9216 + j) 0)))
+      (at 19 j h ∙ rw t (other (eqb b 19) (getD mid (9728 + j) 0))) ∙ v j h ∙ rw t))

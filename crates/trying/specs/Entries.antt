@@ -2,7 +2,7 @@
 -- of its open qubits, from element 9216 on, modulo 65536; and the parity of the values of its settled qubits, from element 9728 on.
 --   Entry        the three numbers of a row; entryIn: those that a list has
 --   entryOf      those of a row, of the open qubits and the values of the settled ones; an open one has none, and counts as 0
---   Tracks       a list has those of each row of the half, and the dangling rows
+--   HasEntries   a list has those of each row of the half; Tracks: and the dangling rows
 --   EntryPut     a row's three numbers written
 --   listed?      all rows on a qubit are listed with the code
 --   opened       a row's numbers with an open qubit more; settled: with one less, which has a value
@@ -21,7 +21,7 @@ use Rattle.machine.specs.Machine.{part, put, closed?}
 use Rattle.machine.specs.Lists.{digit, lit?}
 use Rattle.scans.specs.Rows.{RowLists, rowsIn, GoodRows}
 use Rattle.scans.proofs.Checks.{here, was-read}
-use Rattle.kept.specs.Kept.{rowIn, Tallied}
+use Rattle.kept.specs.Kept.{rowIn, Tallied, Retallied}
 use Rattle.kept.proofs.Lowering.{summed}
 use Rattle.filling.specs.Filling.{ReadAs}
 
@@ -43,14 +43,16 @@ total = summed (λ q. q)
 abbrev pub entryOf : Qubits → Qubits → Row → Entry
 entryOf o x r = record { number = length (part o r); sum = total (part o r) % 65536; parity = digit (odd x r) }
 
+abbrev pub HasEntries : Qubits → Qubits → RowLists → List ℕ → Type 0
+HasEntries o x c work = (i : ℕ) → i < c .count → entryIn work i ≡ entryOf o x (rowIn c i)
+
 pub record Tracks (o x : Qubits) (c : RowLists) (work : List ℕ) : Type 0 where
-  pub entries : (i : ℕ) → i < c .count → entryIn work i ≡ entryOf o x (rowIn c i)
+  pub entries : HasEntries o x c work
   pub tallied : Tallied (c .count) work
 
--- Row i has these numbers, the other rows keep theirs, and the dangling rows are told anew.
-pub record EntryPut (i : ℕ) (e : Entry) (old new : List ℕ) : Type 0 where
-  pub entries : (j : ℕ) → j < 512 → entryIn new j ≡ cond (eqb i j) e (entryIn old j)
-  pub tallied : (count : ℕ) → count ≤ 512 → i < count → Tallied count old → Tallied count new
+-- Row i has these numbers, the other rows keep theirs.
+abbrev pub EntryPut : ℕ → Entry → List ℕ → List ℕ → Type 0
+EntryPut i e old new = (j : ℕ) → j < 512 → entryIn new j ≡ cond (eqb i j) e (entryIn old j)
 
 unfoldable pub listed? : List ℕ → ℕ → Bool
 listed? ends q = leb (slot q + 15) (length ends) && leb (numberOn ends q) 14
@@ -67,10 +69,10 @@ pub record RowOpened (q r first count : ℕ) (lit old new : List ℕ) : Type 0 w
   pub opens : (i : ℕ) → ReadAs first count lit r i → getD old (8704 + i) 0 < 1024 → EntryPut i (opened q (entryIn old i)) old new
   pub passes : ((i : ℕ) → ReadAs first count lit r i → ⊥) → new ≡ old
 
--- The qubits o were open before.
+-- The qubits o were open before. The dangling rows do not follow.
 abbrev pub Opens : ℕ → RowLists → List ℕ → List ℕ → Type 0
 Opens q c old new =
-    (n : ℕ) → n ≤ 1024 → q < n → GoodRows n c → (o x : Qubits) → o q ≡ false → Tracks o x c old → Tracks (put q true o) x c new
+    (n : ℕ) → n ≤ 1024 → q < n → GoodRows n c → (o x : Qubits) → o q ≡ false → HasEntries o x c old → HasEntries (put q true o) x c new
 
 pub record RowsOpened (q : ℕ) (on : List ℕ) (first count : ℕ) (lit old new : List ℕ) : Type 0 where
   pub long : length new ≡ length old
@@ -88,10 +90,11 @@ pub record OpenAs (first count : ℕ) (work : List ℕ) (r i : ℕ) : Type 0 whe
   pub within : i < count
   pub some-open : 1 ≤ getD work (8704 + i) 0
 
--- Row r, if it is one of the half's and has an open qubit. Otherwise nothing is written. It is told whether the row, if this closed it, reads right.
+-- Row r, if it is one of the half's and has an open qubit; the dangling rows are told anew. Otherwise nothing is written. It is told whether the row, if this closed it, reads right.
 pub record RowSettled (p v r first count : ℕ) (lit old new : List ℕ) (told : Bool) : Type 0 where
   pub long : length new ≡ length old
   pub settles : (i : ℕ) → OpenAs first count old r i → EntryPut i (settled p v (entryIn old i)) old new
+  pub tallied : (i : ℕ) → OpenAs first count old r i → Retallied i old new
   pub reads : told ≡ true → (i : ℕ) → OpenAs first count old r i → settled p v (entryIn old i) .number ≡ 0 → settled p v (entryIn old i) .parity ≡ digit (lit? (getD lit r 0))
   pub passes : ((i : ℕ) → OpenAs first count old r i → ⊥) → new ≡ old
 

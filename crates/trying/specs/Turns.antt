@@ -1,18 +1,20 @@
 -- The turns of a try.
 --   valuesOf      the values of the qubits: bit 0 of their forms
---   Ready         the numbers of the rows are right over marks and forms, and no qubit is fixed or guessed
+--   Ready         the numbers of the rows are right over marks and forms, and no qubit is guessed
 --   ValuePut      a qubit's form becomes a plain bit
 --   QubitSettled  an open qubit is settled with a value
+--   reopened      a mark, that of a peeled qubit open again; isFixed: a mark is that of a fixed one
 --   Peels         a turn of the machine, or that no row dangles
---   Tells         what an answer tells of the end of the half
---   RunTries      the turns up to that end
+--   Stuck         the turns led where no row dangles
+--   Reaches       what an answer tells of the half
+--   RunTries      the turns up to there
 use mathlib.Core.Path.{_≡_}
-use mathlib.Core.Bool.{Bool, true, false, _&&_}
+use mathlib.Core.Bool.{Bool, true, false, _&&_, cond}
 use mathlib.Core.Option.{none}
 use mathlib.Core.List.{List}
-use Prim.Native.Nat.{ℕ, suc, _*_, _≤_}
+use Prim.Native.Nat.{ℕ, suc, _-_, _*_, _≤_}
 use lib.Dec.{eqb}
-use lib.ListN.{length, getD}
+use lib.ListN.{length, getD, set}
 use Rattle.binary.specs.Meaning.{Qubits}
 use Rattle.machine.specs.declared.Word.the-variants.{Certain, Spent}
 use Rattle.machine.specs.declared.HalfReport.{HalfReport}
@@ -37,7 +39,6 @@ pub record Ready (n : ℕ) (c : RowLists) (l : Working) : Type 0 where
   pub tracks : Tracks (isOpen (view n (l .marks))) (valuesOf n (l .forms)) c (l .work)
   pub topped : Topped n 0 (l .forms)
   pub blank : (q : ℕ) → isOpen (view n (l .marks)) q ≡ true → valuesOf n (l .forms) q ≡ false
-  pub unfixed : (q : ℕ) → eqb (view n (l .marks) q) 1 ≡ false
   pub unguessed : (q : ℕ) → isGuessed n (l .marks) q ≡ false
 
 -- Of forms without guesses.
@@ -55,29 +56,48 @@ pub record SettledAs (n : ℕ) (c : RowLists) (p v : ℕ) (old new : Working) : 
 
 pub record QubitSettled (n : ℕ) (ends lit : List ℕ) (first count p v : ℕ) (old new : Working) (told : Bool) : Type 0 where
   pub stays : Stays n old new
+  pub mark : new .marks ≡ set (old .marks) p 2
   pub settles : told ≡ true → (flat : List ℕ) → let c = rowsIn flat ends first count lit in GoodRows n c → Ready n c old
       → isOpen (view n (old .marks)) p ≡ true → SettledAs n c p v old new
+
+abbrev pub reopened : ℕ → ℕ
+reopened m = cond (eqb m 2) 4 m
+
+abbrev pub isFixed : ℕ → List ℕ → ℕ → Bool
+isFixed n marks q = eqb (view n marks q) 1
 
 -- However many turns were made before.
 pub record PeeledAs (n : ℕ) (c : RowLists) (old new : Working) : Type 0 where
   pub dangles : some? (dangling (isOpen (view n (old .marks))) (rowChecks c)) ≡ true
   pub comes : (turns : ℕ) → turnBy n c (stateOf n (old .marks) (old .forms) 0 turns) ≡ on (stateOf n (new .marks) (new .forms) 0 (suc turns))
   pub fewer : marked n (view n (old .marks)) 4 ≡ suc (marked n (view n (new .marks)) 4)
+  pub fixed : (q : ℕ) → isFixed n (new .marks) q ≡ isFixed n (old .marks) q
   pub ready : Ready n c new
 
 pub record Peels (n : ℕ) (ends lit : List ℕ) (first count : ℕ) (old new : Working) (r : Peel) : Type 0 where
   pub stays : Stays n old new
+  pub marks : (q : ℕ) → reopened (getD (new .marks) q 0) ≡ reopened (getD (old .marks) q 0)
+  pub idle : r ≡ NoRow → new ≡ old
   pub no-row : r ≡ NoRow → (flat : List ℕ) → let c = rowsIn flat ends first count lit in GoodRows n c → Ready n c old
       → dangling (isOpen (view n (old .marks))) (rowChecks c) ≡ none
   pub made : r ≡ Made → (flat : List ℕ) → let c = rowsIn flat ends first count lit in GoodRows n c → Ready n c old → PeeledAs n c old new
 
--- What is answered of a half that ends so: where it is over, report and lists are those of the end, which is certain; where a qubit is left, the end is spent.
-pub record Tells (n : ℕ) (c : RowLists) (new : Working) (r : TryAnswer) (e : End) : Type 0 where
-  pub over : (h : HalfReport) → r ≡ Over h → (h .word ≡ Certain) × Ran n c new h e
-  pub left : r ≡ Left → e .word ≡ Spent
+-- After `made` turns: from here the half goes on as it does from its start, with every budget, and without a guess it is spent.
+pub record Stuck (n : ℕ) (c : RowLists) (limit made : ℕ) (l : Working) (whole : ℕ → End) : Type 0 where
+  pub ready : Ready n c l
+  pub rest : (budget : ℕ) → runFrom n c budget limit (suc (limit - made)) l 0 made ≡ whole budget
+  pub spent : whole 0 .word ≡ Spent
 
--- Of so many open qubits. The machine has guess budget 0.
-pub record RunTries (n : ℕ) (ends lit : List ℕ) (first count limit number : ℕ) (old new : Working) (r : TryAnswer) : Type 0 where
+-- What is answered of a half that ends so with each budget: where it is over, report and lists are those of the end, which is certain, with any; where a qubit is left,
+-- the lists are those of the turns made.
+pub record Reaches (n : ℕ) (c : RowLists) (limit : ℕ) (new : Working) (r : TryAnswer) (whole : ℕ → End) : Type 0 where
+  pub over : (h : HalfReport) → r ≡ Over h → (h .word ≡ Certain) × ((budget : ℕ) → Ran n c new h (whole budget))
+  pub left : (made : ℕ) → r ≡ Left made → Stuck n c limit made new whole
+
+-- Of so many fixed and so many open qubits.
+pub record RunTries (n : ℕ) (ends lit : List ℕ) (first count limit fixed number : ℕ) (old new : Working) (r : TryAnswer) : Type 0 where
   pub stays : Stays n old new
-  pub tells : (flat : List ℕ) → let c = rowsIn flat ends first count lit in GoodRows n c → Ready n c old → number ≡ marked n (view n (old .marks)) 4
-      → Tells n c new r (runFrom n c 0 limit (suc limit) old 0 0)
+  pub marks : (q : ℕ) → reopened (getD (new .marks) q 0) ≡ reopened (getD (old .marks) q 0)
+  pub within : (made : ℕ) → r ≡ Left made → made ≤ limit
+  pub tells : (flat : List ℕ) → let c = rowsIn flat ends first count lit in GoodRows n c → Ready n c old → fixed ≡ marked n (view n (old .marks)) 1
+      → number ≡ marked n (view n (old .marks)) 4 → Reaches n c limit new r (λ budget. runFrom n c budget limit (suc limit) old 0 0)

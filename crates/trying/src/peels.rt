@@ -81,20 +81,21 @@ fn peel_lowest(
     Peel::Made
 }
 
-// Turns until no qubit is left, or no row dangles, or the limit is reached.
+// Turns until no qubit is left, or no row dangles, or the limit is reached. fixed: how many qubits are.
 pub fn run(
     n: u16,
     ends: &[u16],
     lit: &[u8],
     rows: Rows,
     limit: u16,
+    fixed: u16,
     unsettled: u16,
     work: &mut [u64],
     marks: &mut [u8],
     forms: &mut [u64],
 ) -> TryAnswer
     requires { ⌜ (n ≤ 1024) × (n ≤ length (now marks)) × (4 * n ≤ length (now forms)) × (10240 ≤ length (now work)) × (rows .count ≤ 512) × (rows .first .0 + rows .count ≤ 1024) ⌝ }
-    ensures { λ r. ⌜ RunTries n (now (ends .entry)) (now (lit .entry)) (rows .first .0) (rows .count) limit unsettled (record { marks = now (marks .entry); forms = now (forms .entry); work = now (work .entry) }) (record { marks = now (marks .exit); forms = now (forms .exit); work = now (work .exit) }) r ⌝ }
+    ensures { λ r. ⌜ RunTries n (now (ends .entry)) (now (lit .entry)) (rows .first .0) (rows .count) limit fixed unsettled (record { marks = now (marks .entry); forms = now (forms .entry); work = now (work .entry) }) (record { marks = now (marks .exit); forms = now (forms .exit); work = now (work .exit) }) r ⌝ }
 {
     let size = n as usize;
     let mut turns: u16 = 0;
@@ -109,7 +110,7 @@ pub fn run(
                 return TryAnswer::Unknown;
             }
             Peel::NoRow => {
-                return TryAnswer::Left;
+                return TryAnswer::Left(turns);
             }
             Peel::Made => {}
         }
@@ -118,7 +119,7 @@ pub fn run(
     }
     TryAnswer::Over(HalfReport {
         word: Word::Certain,
-        fixed: 0,
+        fixed: fixed,
         turns: turns,
         guesses: 0,
         live: 0,

@@ -4,7 +4,7 @@ use mathlib.Core.Bool.{Bool, true, false, not, cond}
 use mathlib.Core.Logic.{_⊎_, inl, inr, ⊎-elim}
 use mathlib.Core.Option.{none, some}
 use mathlib.Core.List.{List}
-use Prim.Native.Nat.{ℕ, suc, _+_, _*_, _/_, _%_, _≤_, _<_, zero-le}
+use Prim.Native.Nat.{ℕ, suc, _+_, _-_, _*_, _/_, _%_, _≤_, _<_, zero-le}
 use native.Mathlib.Omega.{arith}
 use lib.Dec.{leb}
 use lib.ListN.{length}
@@ -16,7 +16,7 @@ use Rattle.binary.proofs.WordBits.{order, bit-zero}
 use Rattle.lists.specs.Cleared.{Cleared}
 use Rattle.machine.specs.declared.Word.the-variants.{None}
 use Rattle.machine.specs.declared.HalfReport.{HalfReport}
-use Rattle.machine.specs.Machine.{Form, on, isOpen, blank, stage, freest, run}
+use Rattle.machine.specs.Machine.{Form, End, on, isOpen, blank, stage, freest, run}
 use Rattle.machine.specs.Report.{marked}
 use Rattle.machine.specs.Lists.{view, formOf, formsOf}
 use Rattle.machine.proofs.FormWords.{form-in, form-out}
@@ -27,7 +27,7 @@ use Rattle.turns.specs.declared.RunAnswer.the-variants.{Refused, Over}
 use Rattle.turns.specs.declared.Ended.{Ended}
 use Rattle.turns.specs.Lists.{stateOf}
 use Rattle.turns.specs.Turns.{Working, Stays, Ready, EndedAs, runFrom, RunEnds}
-use Rattle.turns.specs.Runs.{stageIn, Begins, TurnedHalf, reportBy, RanHalf, fits?, fitting, Runs}
+use Rattle.turns.specs.Runs.{stageIn, Begins, endOf, Midway, restOf, TurnedHalf, reportBy, RanHalf, fits?, fitting, Answers}
 use Rattle.turns.proofs.Stays.{stays-same, stays-on}
 use Rattle.turns.proofs.Running.{run-failed}
 
@@ -56,7 +56,10 @@ module _ (n : ℕ) (c : RowLists) (budget limit : ℕ) (old : Working) (forms₁
   begun : Begins n c old → stageIn n c (old .marks) ≡ stage (view n (old .marks)) 0 (cond told none (some blank))
   begun b = ap (stage (view n (old .marks)) 0) (tells .taken lit (omega arith) few (c .flat) (c .ends) o (b .kept))
 
-  pub half-failed : told ≡ true → TurnedHalf n c budget limit old now (record { word = None; turns = 0; live = 0 })
+  abbrev Turned : Working → Ended → Type 0
+  Turned new r = TurnedHalf n c (Begins n c old) (endOf n c budget limit old) old new r
+
+  pub half-failed : told ≡ true → Turned now (record { word = None; turns = 0; live = 0 })
   half-failed e =
       record {
         stays = stays-mid;
@@ -78,15 +81,28 @@ module _ (n : ℕ) (c : RowLists) (budget limit : ℕ) (old : Working) (forms₁
       begun b ∙ ap (λ (x : Bool). stage (view n (old .marks)) 0 (cond x none (some blank))) e
       ∙ ap (λ (g : ℕ → Form). on (record { mark = view n (old .marks); forms = record { form = g; live = 0 }; turns = 0 })) (sym clear)
 
-  pub half-goes : told ≡ false → (new : Working) (r : Ended) → RunEnds n c budget limit 0 now new r → TurnedHalf n c budget limit old new r
+  pub half-goes : told ≡ false → (new : Working) (r : Ended) → RunEnds n c budget limit 0 0 now new r → Turned new r
   unfolding runFrom
   half-goes e new r v =
       record {
         stays = stays-on n old now new stays-mid (v .stays);
         ends = λ b.
-            subst (EndedAs n c new r) (sym (ap (run (rowChecks c) n (freest (rowChecks c) n) budget limit (suc limit)) (here e b)))
+            let all : limit - 0 ≡ limit = omega arith in
+            subst (EndedAs n c new r)
+            (ap (λ (m : ℕ). run (rowChecks c) n (freest (rowChecks c) n) budget limit (suc m) (on (stateOf n (old .marks) forms₁ 0 0))) all
+            ∙ sym (ap (run (rowChecks c) n (freest (rowChecks c) n) budget limit (suc limit)) (here e b)))
             (v .ends (b .good) (start-ready b) zero-le);
       }
+
+-- From where turns without a guess led.
+pub half-rest : (n : ℕ) (c : RowLists) (budget limit made : ℕ) (old new : Working) (r : Ended) → RunEnds n c budget limit made 0 old new r
+    → TurnedHalf n c (Midway n c old) (restOf n c budget limit made old) old new r
+half-rest n c budget limit made old new r v =
+    record {
+      stays = v .stays;
+      ends = λ m.
+          let b = m .begins in v .ends (b .good) (record { topped = m .topped; kept = b .kept; on = b .on; weights = λ e. never e refl; unguessed = λ e. b .unguessed }) zero-le;
+    }
 
 ----------------------------------------------------------------------
 -- The report
@@ -100,9 +116,9 @@ pub report-is : (n : ℕ) (e : Ended) (marks : List ℕ) (x y : ℕ) → n ≤ l
 report-is n e marks x y h a b =
     λ i. record { word = e .word; fixed = counted-as n marks 1 x h a i; turns = e .turns; guesses = counted-as n marks 3 y h b i; live = e .live }
 
-pub ran-half : (n : ℕ) (c : RowLists) (budget limit : ℕ) (old new : Working) (e : Ended) (r : HalfReport) → TurnedHalf n c budget limit old new e
-    → r ≡ reportBy n e (new .marks) → RanHalf n c budget limit old new r
-ran-half n c budget limit old new e r v told =
+pub ran-half : (n : ℕ) (c : RowLists) (asked : Type 0) (end : End) (old new : Working) (e : Ended) (r : HalfReport) → TurnedHalf n c asked end old new e
+    → r ≡ reportBy n e (new .marks) → RanHalf n c asked end old new r
+ran-half n c asked end old new e r v told =
     record {
       stays = v .stays;
       ran = λ b. let w = v .ends b in
@@ -148,17 +164,17 @@ fits-out n c l t =
       last = omega arith;
     }
 
-module _ (n : ℕ) (c : RowLists) (budget limit : ℕ) (old : Working) (told : Bool) (tells : told ≡ fitting n c old) where
-  pub runs-refused : not told ≡ true → Runs n c budget limit old old Refused
-  runs-refused e =
+pub does-fit : (fit told : Bool) → told ≡ fit → not told ≡ false → fit ≡ true
+does-fit fit told tells e = cases fit (λ y. y) (λ y. never (ap not (tells ∙ y)) e)
+
+module _ (n : ℕ) (c : RowLists) (fit : Bool) (asked : Type 0) (end : End) (old : Working) (told : Bool) (tells : told ≡ fit) where
+  pub answers-refused : not told ≡ true → Answers n c fit asked end old old Refused
+  answers-refused e =
       record {
         stays = stays-same n old;
         refused = λ i. (refl, refl);
         over = λ i. never i (sym tells ∙ not-out told e);
       }
 
-  pub does-fit : not told ≡ false → fitting n c old ≡ true
-  does-fit e = cases (fitting n c old) (λ y. y) (λ y. never (ap not (tells ∙ y)) e)
-
-  pub runs-over : not told ≡ false → (new : Working) (r : HalfReport) → RanHalf n c budget limit old new r → Runs n c budget limit old new (Over r)
-  runs-over e new r v = record { stays = v .stays; refused = λ i. never (does-fit e) i; over = λ i. (r, refl, v .ran) }
+  pub answers-over : not told ≡ false → (new : Working) (r : HalfReport) → RanHalf n c asked end old new r → Answers n c fit asked end old new (Over r)
+  answers-over e new r v = record { stays = v .stays; refused = λ i. never (does-fit fit told tells e) i; over = λ i. (r, refl, v .ran) }

@@ -3,7 +3,7 @@ use mathlib.Core.Path.{_≡_, refl, sym, ap, ap₂, _∙_, subst}
 use mathlib.Core.Bool.{Bool, true, false}
 use mathlib.Core.Option.{Option, none, some}
 use mathlib.Core.List.{List}
-use Prim.Native.Nat.{ℕ, zero, suc, _+_, _-_, _≤_, _<_, zero-le}
+use Prim.Native.Nat.{ℕ, zero, suc, _+_, _-_, _≤_, _<_}
 use native.Mathlib.Omega.{arith}
 use native.Mathlib.Numerals.{add-one, lt-of-le-of-ne}
 use lib.Dec.{eqb}
@@ -54,13 +54,13 @@ run-failed checks n choose budget limit (suc m) st = refl
 ----------------------------------------------------------------------
 -- The loop
 
-module _ (n : ℕ) (c : RowLists) (budget limit : ℕ) (old : Working) (begun : ℕ) where
+module _ (n : ℕ) (c : RowLists) (budget limit made : ℕ) (old : Working) (begun : ℕ) where
   abbrev whole : End
-  whole = runFrom n c budget limit (suc limit) old begun 0
+  whole = runFrom n c budget limit (suc (limit - made)) old begun made
 
   -- So far: the half that is left to run ends as the whole one.
   pub record Running (l : Working) (live : ℕ) (weighed : Bool) (turns left : ℕ) : Type 0 where
-    pub same : runFrom n c budget limit (suc (limit - turns)) l live turns ≡ runFrom n c budget limit (suc limit) old begun 0
+    pub same : runFrom n c budget limit (suc (limit - turns)) l live turns ≡ runFrom n c budget limit (suc (limit - made)) old begun made
     pub count : left ≡ marked n (view n (l .marks)) 4
     pub ready : Ready n c live weighed l
     pub few : live ≤ budget
@@ -71,18 +71,8 @@ module _ (n : ℕ) (c : RowLists) (budget limit : ℕ) (old : Working) (begun : 
     pub within : turns ≤ limit
     pub so : GoodRows n c → Ready n c begun false old → begun ≤ budget → Running l live weighed turns left
 
-  pub goes-start : (left : ℕ) → left ≡ marked n (view n (old .marks)) 4 → Goes old begun false 0 left
-  goes-start left e =
-      record {
-        stays = stays-same n old;
-        within = zero-le;
-        so = λ good ready few. record {
-          same = let z : limit - 0 ≡ limit = omega arith in ap (λ (k : ℕ). runFrom n c budget limit (suc k) old begun 0) z;
-          count = e;
-          ready = ready;
-          few = few;
-        };
-      }
+  pub goes-start : made ≤ limit → (left : ℕ) → left ≡ marked n (view n (old .marks)) 4 → Goes old begun false made left
+  goes-start within left e = record { stays = stays-same n old; within = within; so = λ good ready few. record { same = refl; count = e; ready = ready; few = few } }
 
   module _ (l : Working) (live : ℕ) (weighed : Bool) (turns left : ℕ) (g : Goes l live weighed turns left) where
     abbrev st : State
@@ -103,7 +93,7 @@ module _ (n : ℕ) (c : RowLists) (budget limit : ℕ) (old : Working) (begun : 
         (sym (run-ends (rowChecks c) n rule budget limit (limit - turns) st w e) ∙ v .same)
         (record { word = refl; turns = refl; live = refl; marks = refl; forms = λ i. refl; kept = λ i. record { rows = v .ready .kept; weights = weights-at v } })
 
-    pub goes-finished : (r : Ended) → r ≡ record { word = finished live; turns = turns; live = live } → left ≡ 0 → RunEnds n c budget limit begun old l r
+    pub goes-finished : (r : Ended) → r ≡ record { word = finished live; turns = turns; live = live } → left ≡ 0 → RunEnds n c budget limit made begun old l r
     goes-finished r i e =
         record {
           stays = g .stays;
@@ -116,7 +106,7 @@ module _ (n : ℕ) (c : RowLists) (budget limit : ℕ) (old : Working) (begun : 
       open-now : Running l live weighed turns left → noneOpen (rowChecks c) n rule st ≡ false
       open-now v = some-open n left (l .marks) (v .count) more
 
-      pub goes-stopped : turns ≡ limit → RunEnds n c budget limit begun old l (record { word = Stopped; turns = turns; live = live })
+      pub goes-stopped : turns ≡ limit → RunEnds n c budget limit made begun old l (record { word = Stopped; turns = turns; live = live })
       goes-stopped e =
           record {
             stays = g .stays;
@@ -128,7 +118,7 @@ module _ (n : ℕ) (c : RowLists) (budget limit : ℕ) (old : Working) (begun : 
         moves : GoodRows n c → Running l live weighed turns left → (m′ : Move) → m ≡ m′ → MovedBy n c budget live l l′ m′
         moves good v m′ e = subst (MovedBy n c budget live l l′) e (moved .moves good (v .ready) (open-now v) (v .few))
 
-        pub goes-spent : m ≡ Spent → RunEnds n c budget limit begun old l′ (record { word = Word.Spent; turns = turns; live = live })
+        pub goes-spent : m ≡ Spent → RunEnds n c budget limit made begun old l′ (record { word = Word.Spent; turns = turns; live = live })
         goes-spent i =
             record {
               stays = stays-on n old l l′ (g .stays) (moved .stays);
@@ -182,10 +172,10 @@ module _ (n : ℕ) (c : RowLists) (budget limit : ℕ) (old : Working) (begun : 
                     let here : stateOf n (l′ .marks) (l′ .forms) now (turns + 1) ≡ st′ = ap₂ (stateOf n (l′ .marks) (l′ .forms)) (sym e′) (add-one turns) ∙ w .1 in
                     let opened = subst (OpenAt n (turns + left)) i (open-turn (rowChecks c) n rule (best-rule (fewer (rowChecks c)) n) (turns + left) st (ap (turns +_) (sym (v .count)), open-below n (l .marks))) in
                     let marks = ap (λ (s : State). marked n (s .mark) 4) here in
-                    let made = ap (λ (s : State). s .turns) here in
+                    let one-more = ap (λ (s : State). s .turns) here in
                     record {
                       same = ap₂ (run (rowChecks c) n rule budget limit) (steps in-limit) (ap on here ∙ sym i) ∙ goes;
-                      count = counted (st′ .turns) (marked n (st′ .mark) 4) (marked n (view n (l′ .marks)) 4) (opened .0) made marks;
+                      count = counted (st′ .turns) (marked n (st′ .mark) 4) (marked n (view n (l′ .marks)) 4) (opened .0) one-more marks;
                       ready = z .1 .ready now e;
                       few = subst (λ (k : ℕ). k ≤ budget) e′ (subst (FewAt budget) i (few-turn (rowChecks c) n rule budget limit st (v .few) unsaid));
                     }
@@ -196,7 +186,7 @@ module _ (n : ℕ) (c : RowLists) (budget limit : ℕ) (old : Working) (begun : 
                     counted : (a b d : ℕ) → a + b ≡ turns + left → turns + 1 ≡ a → d ≡ b → left - 1 ≡ d
                     counted a b d x y u = omega arith
 
-          pub goes-failed : t ≡ Failed → RunEnds n c budget limit begun old l′ (record { word = None; turns = turns + 1; live = 0 })
+          pub goes-failed : t ≡ Failed → RunEnds n c budget limit made begun old l′ (record { word = None; turns = turns + 1; live = 0 })
           goes-failed e = record { stays = stays; ends = λ good ready few. failed-end good (g .so good ready few) e }
 
           pub goes-on : (now : ℕ) → t ≡ Live now → Goes l′ now keeps (turns + 1) (left - 1)

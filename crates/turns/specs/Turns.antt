@@ -12,7 +12,7 @@ use mathlib.Core.Path.{_≡_}
 use mathlib.Core.Bool.{Bool, true, false, not, _&&_}
 use mathlib.Core.Option.{none}
 use mathlib.Core.List.{List}
-use Prim.Native.Nat.{ℕ, suc, _*_, _≤_, _<_}
+use Prim.Native.Nat.{ℕ, suc, _-_, _*_, _≤_, _<_}
 use lib.Dec.{eqb}
 use lib.ListN.{length, getD}
 use Rattle.binary.specs.Bits.{below}
@@ -148,6 +148,7 @@ unfoldable pub runFrom : ℕ → RowLists → ℕ → ℕ → ℕ → Working �
 runFrom n c budget limit m l live turns =
     run (rowChecks c) n (freest (rowChecks c) n) budget limit m (on (stateOf n (l .marks) (l .forms) live turns))
 
-pub record RunEnds (n : ℕ) (c : RowLists) (budget limit live : ℕ) (old new : Working) (r : Ended) : Type 0 where
+-- After `made` turns.
+pub record RunEnds (n : ℕ) (c : RowLists) (budget limit made live : ℕ) (old new : Working) (r : Ended) : Type 0 where
   pub stays : Stays n old new
-  pub ends : GoodRows n c → Ready n c live false old → live ≤ budget → EndedAs n c new r (runFrom n c budget limit (suc limit) old live 0)
+  pub ends : GoodRows n c → Ready n c live false old → live ≤ budget → EndedAs n c new r (runFrom n c budget limit (suc (limit - made)) old live made)

@@ -1,8 +1,8 @@
-// A half from the marks of its start to its report.
+// A half from the marks of its start, or from where turns without a guess led, to its report.
 ghost use mathlib.Core.Path.{_≡_};
 ghost use Prim.Native.Nat.{_+_, _*_, _≤_};
 ghost use lib.ListN.{length};
-ghost use Rattle.turns.specs.Runs.{TurnedHalf, reportBy, RanHalf};
+ghost use Rattle.turns.specs.Runs.{Begins, endOf, Midway, restOf, TurnedHalf, reportBy, RanHalf};
 use crate::Ended;
 use crate::turns;
 use code::Rows;
@@ -23,7 +23,7 @@ fn turn_half(
     forms: &mut [u64],
 ) -> Ended
     requires { ⌜ (n ≤ 1024) × (n ≤ length (now marks)) × (4 * n ≤ length (now forms)) × (10240 ≤ length (now work)) × (rows .count ≤ 512) × (rows .first .0 + rows .count ≤ length (now lit)) × (rows .first .0 + rows .count ≤ 1024) ⌝ }
-    ensures { λ r. ⌜ TurnedHalf n (record { flat = now (flat .entry); ends = now (ends .entry); lit = now (lit .entry); first = rows .first .0; count = rows .count }) budget limit (record { marks = now (marks .entry); forms = now (forms .entry); work = now (work .entry) }) (record { marks = now (marks .exit); forms = now (forms .exit); work = now (work .exit) }) r ⌝ }
+    ensures { λ r. ⌜ TurnedHalf n (record { flat = now (flat .entry); ends = now (ends .entry); lit = now (lit .entry); first = rows .first .0; count = rows .count }) (Begins n (record { flat = now (flat .entry); ends = now (ends .entry); lit = now (lit .entry); first = rows .first .0; count = rows .count }) (record { marks = now (marks .entry); forms = now (forms .entry); work = now (work .entry) })) (endOf n (record { flat = now (flat .entry); ends = now (ends .entry); lit = now (lit .entry); first = rows .first .0; count = rows .count }) budget limit (record { marks = now (marks .entry); forms = now (forms .entry); work = now (work .entry) })) (record { marks = now (marks .entry); forms = now (forms .entry); work = now (work .entry) }) (record { marks = now (marks .exit); forms = now (forms .exit); work = now (work .exit) }) r ⌝ }
 {
     let size = n as usize;
     lists::clear_words(forms, 0, 4 * size);
@@ -43,6 +43,7 @@ fn turn_half(
         rows,
         budget as u16,
         limit,
+        0,
         unsettled,
         work,
         marks,
@@ -81,8 +82,44 @@ pub fn run_marked(
     forms: &mut [u64],
 ) -> HalfReport
     requires { ⌜ (n ≤ 1024) × (n ≤ length (now marks)) × (4 * n ≤ length (now forms)) × (10240 ≤ length (now work)) × (rows .count ≤ 512) × (rows .first .0 + rows .count ≤ length (now lit)) × (rows .first .0 + rows .count ≤ 1024) ⌝ }
-    ensures { λ r. ⌜ RanHalf n (record { flat = now (flat .entry); ends = now (ends .entry); lit = now (lit .entry); first = rows .first .0; count = rows .count }) budget limit (record { marks = now (marks .entry); forms = now (forms .entry); work = now (work .entry) }) (record { marks = now (marks .exit); forms = now (forms .exit); work = now (work .exit) }) r ⌝ }
+    ensures { λ r. ⌜ RanHalf n (record { flat = now (flat .entry); ends = now (ends .entry); lit = now (lit .entry); first = rows .first .0; count = rows .count }) (Begins n (record { flat = now (flat .entry); ends = now (ends .entry); lit = now (lit .entry); first = rows .first .0; count = rows .count }) (record { marks = now (marks .entry); forms = now (forms .entry); work = now (work .entry) })) (endOf n (record { flat = now (flat .entry); ends = now (ends .entry); lit = now (lit .entry); first = rows .first .0; count = rows .count }) budget limit (record { marks = now (marks .entry); forms = now (forms .entry); work = now (work .entry) })) (record { marks = now (marks .entry); forms = now (forms .entry); work = now (work .entry) }) (record { marks = now (marks .exit); forms = now (forms .exit); work = now (work .exit) }) r ⌝ }
 {
     let ended = turn_half(n, flat, ends, lit, rows, budget, limit, work, marks, forms);
+    report(n, ended, marks)
+}
+
+// The rest of a half after so many turns, none of them a guess, whose sizes and lists fit, and its report.
+pub fn go_on_marked(
+    n: u16,
+    flat: &[u16],
+    ends: &[u16],
+    lit: &[u8],
+    rows: Rows,
+    budget: u8,
+    limit: u16,
+    made: u16,
+    work: &mut [u64],
+    marks: &mut [u8],
+    forms: &mut [u64],
+) -> HalfReport
+    requires { ⌜ (n ≤ 1024) × (n ≤ length (now marks)) × (4 * n ≤ length (now forms)) × (10240 ≤ length (now work)) × (rows .count ≤ 512) × (rows .first .0 + rows .count ≤ length (now lit)) × (rows .first .0 + rows .count ≤ 1024) ⌝ }
+    requires { ⌜ made ≤ limit ⌝ }
+    ensures { λ r. ⌜ RanHalf n (record { flat = now (flat .entry); ends = now (ends .entry); lit = now (lit .entry); first = rows .first .0; count = rows .count }) (Midway n (record { flat = now (flat .entry); ends = now (ends .entry); lit = now (lit .entry); first = rows .first .0; count = rows .count }) (record { marks = now (marks .entry); forms = now (forms .entry); work = now (work .entry) })) (restOf n (record { flat = now (flat .entry); ends = now (ends .entry); lit = now (lit .entry); first = rows .first .0; count = rows .count }) budget limit made (record { marks = now (marks .entry); forms = now (forms .entry); work = now (work .entry) })) (record { marks = now (marks .entry); forms = now (forms .entry); work = now (work .entry) }) (record { marks = now (marks .exit); forms = now (forms .exit); work = now (work .exit) }) r ⌝ }
+{
+    let unsettled = scans::count_marks(n, marks, 4);
+    let ended = turns::run(
+        n,
+        flat,
+        ends,
+        lit,
+        rows,
+        budget as u16,
+        limit,
+        made,
+        unsettled,
+        work,
+        marks,
+        forms,
+    );
     report(n, ended, marks)
 }

@@ -1,7 +1,7 @@
-// The turns of a half, from the marks of its start.
+// The turns of a half, from the marks of its start, or from where turns without a guess led.
 ghost use mathlib.Core.Path.{_≡_};
 ghost use lib.ListN.{length};
-ghost use Rattle.turns.specs.Runs.{fits?, Runs};
+ghost use Rattle.turns.specs.Runs.{fits?, Runs, GoesOn};
 
 mod half;
 mod turns;
@@ -62,4 +62,39 @@ pub fn run_turns(
         return RunAnswer::Refused;
     }
     RunAnswer::Over(half::run_marked(n, flat, ends, lit, rows, budget, limit, work, marks, forms))
+}
+
+// The rest of a half after so many turns, none of them a guess: from its marks and forms, and what is kept of the rows over them. Nothing is written where sizes or
+// lists do not fit, or the limit is below these turns.
+pub fn go_on(
+    n: u16,
+    flat: &[u16],
+    ends: &[u16],
+    lit: &[u8],
+    rows: Rows,
+    budget: u8,
+    limit: u16,
+    made: u16,
+    work: &mut [u64],
+    marks: &mut [u8],
+    forms: &mut [u64],
+) -> RunAnswer
+    ensures { λ r. ⌜ GoesOn n (record { flat = now (flat .entry); ends = now (ends .entry); lit = now (lit .entry); first = rows .first .0; count = rows .count }) budget limit made (record { marks = now (marks .entry); forms = now (forms .entry); work = now (work .entry) }) (record { marks = now (marks .exit); forms = now (forms .exit); work = now (work .exit) }) r ⌝ }
+{
+    if !(fits(n, lit, rows, work, marks, forms) & (made <= limit)) {
+        return RunAnswer::Refused;
+    }
+    RunAnswer::Over(half::go_on_marked(
+        n,
+        flat,
+        ends,
+        lit,
+        rows,
+        budget,
+        limit,
+        made,
+        work,
+        marks,
+        forms,
+    ))
 }

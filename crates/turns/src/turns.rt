@@ -225,7 +225,7 @@ fn finished(turns: u16, live: u16) -> Ended
     }
 }
 
-// Turns until a test before a turn ends the half, or a row that is taken up.
+// Turns, after so many that were made before, until a test before a turn ends the half, or a row that is taken up.
 pub fn run(
     n: u16,
     flat: &[u16],
@@ -234,18 +234,19 @@ pub fn run(
     rows: Rows,
     budget: u16,
     limit: u16,
+    made: u16,
     unsettled: u16,
     work: &mut [u64],
     marks: &mut [u8],
     forms: &mut [u64],
 ) -> Ended
     requires { ⌜ (n ≤ 1024) × (n ≤ length (now marks)) × (4 * n ≤ length (now forms)) × (10240 ≤ length (now work)) × (rows .count ≤ 512) × (rows .first .0 + rows .count ≤ length (now lit)) × (rows .first .0 + rows .count ≤ 1024) ⌝ }
-    requires { ⌜ (budget ≤ 255) × (unsettled ≡ marked n (view n (now marks)) 4) ⌝ }
-    ensures { λ r. ⌜ RunEnds n (record { flat = now (flat .entry); ends = now (ends .entry); lit = now (lit .entry); first = rows .first .0; count = rows .count }) budget limit 0 (record { marks = now (marks .entry); forms = now (forms .entry); work = now (work .entry) }) (record { marks = now (marks .exit); forms = now (forms .exit); work = now (work .exit) }) r ⌝ }
+    requires { ⌜ (budget ≤ 255) × (made ≤ limit) × (unsettled ≡ marked n (view n (now marks)) 4) ⌝ }
+    ensures { λ r. ⌜ RunEnds n (record { flat = now (flat .entry); ends = now (ends .entry); lit = now (lit .entry); first = rows .first .0; count = rows .count }) budget limit made 0 (record { marks = now (marks .entry); forms = now (forms .entry); work = now (work .entry) }) (record { marks = now (marks .exit); forms = now (forms .exit); work = now (work .exit) }) r ⌝ }
 {
     let mut live: u16 = 0;
     let mut weighed = false;
-    let mut turns: u16 = 0;
+    let mut turns = made;
     let mut left = unsettled;
     while 0 < left {
         if turns == limit {
@@ -255,7 +256,7 @@ pub fn run(
                 live: live,
             };
         }
-        let made = make_turn(
+        let moved = make_turn(
             n,
             flat,
             ends,
@@ -268,7 +269,7 @@ pub fn run(
             marks,
             forms,
         );
-        let Move::Made(taken, keeps) = made else {
+        let Move::Made(taken, keeps) = moved else {
             return Ended {
                 word: Word::Spent,
                 turns: turns,

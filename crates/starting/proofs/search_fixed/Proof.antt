@@ -16,9 +16,6 @@ cast-mark-fixed c = search needs
 mark-fixed-requires : tie.Need-mark-fixed-requires
 mark-fixed-requires c κs = search needs
 
-fill-requires : tie.Need-fill-requires
-fill-requires c κs = search needs
-
 same-length : tie.Need-same-length
 same-length c = search needs
 
@@ -27,10 +24,9 @@ same-length-2 c = search needs
 
 returns : tie.Need-returns
 returns c =
-    let start = c .before .before .before .before .before .before .before .before .before .before .before .before .before .before .before .before .before .before .before .before .before .before .before in
-    let p = start .pre in
-    let packed = c .before .before .before .before .before .before .before .before .before .before .before .before .before .before .before .pack-rows .ensures in
-    searched _ (record { flat = start .args .flat .now; ends = start .args .ends .now; lit = start .args .lit .now; first = start .args .own .first .0; count = start .args .own .count }) _ _ _ _ _ _ _ _ _ _ (p .0) (p .1) (p .3) (p .4) (p .5) (packed .put (packed .answer ∙ room-for-in _ _ _ _ (p .0) (p .1) (p .2) (omega (arith, p .3)))) (c .before .before .before .before .before .before .before .before .before .mark-fixed .ensures) (c .before .before .fill .ensures)
+    let p = c .before .before .before .before .before .before .before .before .before .before .before .before .before .before .before .before .before .pre in
+    let packed = c .before .before .before .before .before .before .before .before .before .before .pack-rows .ensures in
+    searched _ _ _ _ _ _ _ _ _ _ _ _ (p .0) (p .1) (p .3) (p .4) (p .5) (packed .put (packed .answer ∙ room-for-in _ _ _ _ (p .0) (p .1) (p .2) (omega (arith, p .3)))) (c .before .before .before .before .mark-fixed .ensures)
 
 pub search-fixed-spec : {M : Type 1} → statement M
 search-fixed-spec =
@@ -39,7 +35,6 @@ search-fixed-spec =
     pack-rows-requires
     cast-mark-fixed
     mark-fixed-requires
-    fill-requires
     same-length
     same-length-2
     returns)

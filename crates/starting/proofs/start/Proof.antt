@@ -53,8 +53,12 @@ same-length-5 c = search needs
 same-length-6 : tie.Need-same-length-6
 same-length-6 c = search needs
 
+fill-requires : tie.Need-fill-requires
+fill-requires c κs = search needs
+
 returns-3 : tie.Need-returns-3
-returns-3 c = starts-searched _ _ _ _ _ _ _ (sym (c .before .before .before .before .before .before .before .before .before .before .before .before .before .before .before .before .fits2 .ensures) ∙ not-false _ (c .before .before .before .before .before .before .before .before .before .before .before .before .before .before .before .if1 .left)) _ _ _ _ (c .before .before .before .before .before .before .before .before .before .before .before .before .peel-first .ensures .long) (c .before .before .before .before .before .before .before .before .before .before .before .before .peel-first .ensures .opened) (c .before .before .before .before .search-fixed .ensures)
+returns-3 c =
+    starts-searched _ _ _ _ _ _ _ (sym (c .before .before .before .before .before .before .before .before .before .before .before .before .before .before .before .before .before .before .before .before .before .fits2 .ensures) ∙ not-false _ (c .before .before .before .before .before .before .before .before .before .before .before .before .before .before .before .before .before .before .before .before .if1 .left)) _ _ _ _ _ (c .before .before .before .before .before .before .before .before .before .before .before .before .before .before .before .before .before .peel-first .ensures .long) (c .before .before .before .before .before .before .before .before .before .before .before .before .before .before .before .before .before .peel-first .ensures .opened) (c .before .before .before .before .before .before .before .before .before .search-fixed .ensures) (c .before .before .fill .ensures)
 
 pub start-spec : {M : Type 1} → statement M
 start-spec =
@@ -71,6 +75,7 @@ start-spec =
     same-length-4
     returns-2
     search-fixed-requires
+    fill-requires
     same-length-5
     same-length-6
     returns-3)

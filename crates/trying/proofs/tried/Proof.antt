@@ -1,5 +1,7 @@
 -- `trying::tried` meets its contract. Assumes nothing.
+use mathlib.Core.Path.{refl, _∙_}
 use native.Mathlib.Omega.{arith}
+use Rattle.turns.specs.Turns.{Working}
 use Rattle.trying.proofs.Trying.{tried-unknown, tried-run}
 use borrow.Author.Needs.{needs}
 use Rattle.trying.proofs.tried.Statement.{statement}
@@ -14,8 +16,8 @@ clear-words-requires c κs = search needs
 clear-rows-requires : tie.Need-clear-rows-requires
 clear-rows-requires c κs = search needs
 
-open-lost-requires : tie.Need-open-lost-requires
-open-lost-requires c κs = search needs
+open-marked-requires : tie.Need-open-marked-requires
+open-marked-requires c κs = search needs
 
 enum-known-number : tie.Need-enum-known-number
 enum-known-number c = search needs
@@ -33,7 +35,12 @@ same-length-3 : tie.Need-same-length-3
 same-length-3 c = search needs
 
 returns : tie.Need-returns
-returns c = let a = c .before .before .before .before .before .before .before .before .before .before .before .before .before .before .before .before .before .before .before .before .before .before .before .args in tried-unknown _ _ _ _ _ _ _ (record { marks = a .marks .now; forms = a .forms .now; work = a .work .now }) _ _ _ _ (c .before .before .before .before .before .before .before .before .before .before .before .before .before .before .before .clear-words .ensures) (c .before .before .before .before .before .before .before .before .before .before .before .clear-rows .ensures) _ (c .before .before .before .before .before .before .open-lost .ensures)
+returns c =
+    let a = c .before .before .before .before .before .before .before .before .before .before .before .before .before .before .before .before .before .before .before .before .args in let old : Working = record { marks = a .marks .now; forms = a .forms .now; work = a .work .now } in
+    tried-unknown _ _ _ _ _ _ _ old _ _ _ _ (c .before .before .before .before .before .before .before .before .before .before .before .before .before .clear-words .ensures) (c .before .before .before .before .before .before .before .before .before .clear-rows .ensures) _ (c .before .before .before .before .open-marked .ensures) refl
+
+find-dangling-requires : tie.Need-find-dangling-requires
+find-dangling-requires c κs = search needs
 
 lit-closed-requires : tie.Need-lit-closed-requires
 lit-closed-requires c κs = search needs
@@ -48,7 +55,9 @@ same-length-6 : tie.Need-same-length-6
 same-length-6 c = search needs
 
 returns-2 : tie.Need-returns-2
-returns-2 c = let a = c .before .before .before .before .before .before .before .before .before .before .before .before .before .before .before .before .before .before .before .before .before .before .before .before .before .before .before .args in tried-unknown _ _ _ _ _ _ _ (record { marks = a .marks .now; forms = a .forms .now; work = a .work .now }) _ _ _ _ (c .before .before .before .before .before .before .before .before .before .before .before .before .before .before .before .before .before .before .before .clear-words .ensures) (c .before .before .before .before .before .before .before .before .before .before .before .before .before .before .before .clear-rows .ensures) _ (c .before .before .before .before .before .before .before .before .before .before .open-lost .ensures)
+returns-2 c =
+    let a = c .before .before .before .before .before .before .before .before .before .before .before .before .before .before .before .before .before .before .before .before .before .before .before .before .before .before .before .before .args in let old : Working = record { marks = a .marks .now; forms = a .forms .now; work = a .work .now } in
+    tried-unknown _ _ _ _ _ _ _ old _ _ _ _ (c .before .before .before .before .before .before .before .before .before .before .before .before .before .before .before .before .before .before .before .before .before .clear-words .ensures) (c .before .before .before .before .before .before .before .before .before .before .before .before .before .before .before .before .before .clear-rows .ensures) _ (c .before .before .before .before .before .before .before .before .before .before .before .before .open-marked .ensures) (c .before .before .before .before .before .find-dangling .ensures .long)
 
 run-requires : tie.Need-run-requires
 run-requires c κs = search needs
@@ -60,13 +69,14 @@ same-length-8 : tie.Need-same-length-8
 same-length-8 c = search needs
 
 same-length-9 : tie.Need-same-length-9
-same-length-9 c = search needs
+same-length-9 c = c .before .before .before .before .before .before .run .ensures .stays .forms-long ∙ c .before .before .before .before .before .before .before .before .before .before .before .before .before .before .before .before .before .before .before .before .before .before .before .before .before .before .before .before .before .before .before .clear-words .ensures .long
 
 returns-3 : tie.Need-returns-3
 returns-3 c =
-    let a = c .before .before .before .before .before .before .before .before .before .before .before .before .before .before .before .before .before .before .before .before .before .before .before .before .before .before .before .before .before .before .before .before .before .before .before .before .before .args in
-    let p = c .before .before .before .before .before .before .before .before .before .before .before .before .before .before .before .before .before .before .before .before .before .before .before .before .before .before .before .before .before .before .before .before .before .before .before .before .before .pre in
-    tried-run _ _ _ _ _ _ _ (record { marks = a .marks .now; forms = a .forms .now; work = a .work .now }) _ _ _ _ (c .before .before .before .before .before .before .before .before .before .before .before .before .before .before .before .before .before .before .before .before .before .before .before .before .before .before .before .before .before .clear-words .ensures) (c .before .before .before .before .before .before .before .before .before .before .before .before .before .before .before .before .before .before .before .before .before .before .before .before .before .clear-rows .ensures) _ (c .before .before .before .before .before .before .before .before .before .before .before .before .before .before .before .before .before .before .before .before .open-lost .ensures) _ (c .before .before .before .before .before .before .before .before .before .before .before .before .before .before .number .given .1) _ (c .before .before .before .before .before .before .before .before .before .before .before .lit-closed .ensures) (c .before .before .before .before .before .before .before .before .before .before .if1 .left) (omega (arith, p .4, c .before .before .before .before .before .before .before .before .before .before .before .before .before .before .before .before .before .before .before .before .open-lost .ensures .work-long, c .before .before .before .before .before .before .before .before .before .before .before .before .before .before .before .before .before .before .before .before .before .before .before .before .before .clear-rows .ensures .long)) (p .5) (p .6) _ _ (c .before .before .before .before .before .before .run .ensures)
+    let a = c .before .before .before .before .before .before .before .before .before .before .before .before .before .before .before .before .before .before .before .before .before .before .before .before .before .before .before .before .before .before .before .before .before .before .before .before .before .before .args in let old : Working = record { marks = a .marks .now; forms = a .forms .now; work = a .work .now } in
+    let p = c .before .before .before .before .before .before .before .before .before .before .before .before .before .before .before .before .before .before .before .before .before .before .before .before .before .before .before .before .before .before .before .before .before .before .before .before .before .before .pre in
+    tried-run _ _ _ _ _ _ _ old _ _ _ _ (c .before .before .before .before .before .before .before .before .before .before .before .before .before .before .before .before .before .before .before .before .before .before .before .before .before .before .before .before .before .before .before .clear-words .ensures) (c .before .before .before .before .before .before .before .before .before .before .before .before .before .before .before .before .before .before .before .before .before .before .before .before .before .before .before .clear-rows .ensures) _ (c .before .before .before .before .before .before .before .before .before .before .before .before .before .before .before .before .before .before .before .before .before .before .open-marked .ensures) (c .before .before .before .before .before .before .before .before .before .before .before .before .before .before .before .find-dangling .ensures .long)
+    _ (c .before .before .before .before .before .before .before .before .before .before .before .before .before .before .before .before .before .before .number .given .1) _ (c .before .before .before .before .before .before .before .before .before .before .before .lit-closed .ensures) (c .before .before .before .before .before .before .before .before .before .before .if1 .left) (omega (arith, p .3, c .before .before .before .before .before .before .before .before .before .before .before .before .before .before .before .before .before .before .before .before .before .before .before .before .before .before .before .clear-rows .ensures .long, c .before .before .before .before .before .before .before .before .before .before .before .before .before .before .before .before .before .before .before .before .before .before .open-marked .ensures .long)) (p .4) (p .5) (c .before .before .before .before .before .before .before .before .before .before .before .before .before .before .before .find-dangling .ensures) _ _ (c .before .before .before .before .before .before .run .ensures)
 
 pub tried-spec : {M : Type 1} → statement M
 tried-spec =
@@ -75,13 +85,14 @@ tried-spec =
     mul-clear-words
     clear-words-requires
     clear-rows-requires
-    open-lost-requires
+    open-marked-requires
     enum-known-number
     enum-told
     same-length
     same-length-2
     same-length-3
     returns
+    find-dangling-requires
     lit-closed-requires
     same-length-4
     same-length-5

@@ -3,7 +3,8 @@ use mathlib.Core.Path.{refl, sym, _∙_}
 use native.Mathlib.Omega.{arith}
 use Rattle.scans.proofs.Scanning.{open-below}
 use Rattle.turns.proofs.Stays.{stays-same}
-use Rattle.trying.proofs.Peeling.{peels-unknown, peels-none, peels-made}
+use Rattle.turns.specs.Turns.{Working}
+use Rattle.trying.proofs.Peeling.{peels-unknown, settled-marks, peels-none, peels-made}
 use borrow.Author.Tests.{not-false}
 use borrow.Author.Needs.{needs}
 use Rattle.trying.proofs.peels.peel_lowest.Statement.{statement}
@@ -34,7 +35,7 @@ same-length-2 : tie.Need-same-length-2
 same-length-2 c = search needs
 
 returns-2 : tie.Need-returns-2
-returns-2 c = peels-unknown _ _ _ _ _ _ _ (stays-same _ _)
+returns-2 c = peels-unknown _ _ _ _ _ _ _ (stays-same _ _) (λ q. refl)
 
 cast-t22 : tie.Need-cast-t22
 cast-t22 c = search needs
@@ -49,7 +50,7 @@ same-length-4 : tie.Need-same-length-4
 same-length-4 c = search needs
 
 returns-3 : tie.Need-returns-3
-returns-3 c = peels-unknown _ _ _ _ _ _ _ (stays-same _ _)
+returns-3 c = peels-unknown _ _ _ _ _ _ _ (stays-same _ _) (λ q. refl)
 
 add-t22 : tie.Need-add-t22
 add-t22 c = search needs
@@ -82,7 +83,11 @@ same-length-7 : tie.Need-same-length-7
 same-length-7 c = search needs
 
 returns-4 : tie.Need-returns-4
-returns-4 c = peels-unknown _ _ _ _ _ _ _ (c .before .before .before .before .before .before .before .settle .ensures .stays)
+returns-4 c =
+    let a = c .before .before .before .before .before .before .before .before .before .before .before .before .before .before .before .before .before .before .before .before .before .before .before .before .before .before .before .before .before .before .before .before .args in
+    let old : Working = record { marks = a .marks .now; forms = a .forms .now; work = a .work .now } in
+    peels-unknown _ _ _ _ _ old _ (c .before .before .before .before .before .before .before .settle .ensures .stays)
+    (settled-marks _ _ _ _ _ old _ _ _ _ (sym (c .before .before .before .before .before .before .before .before .before .before .before .before .before .before .before .before .before .is-open .ensures) ∙ not-false _ (c .before .before .before .before .before .before .before .before .before .before .before .before .before .before .before .before .if3 .left)) (c .before .before .before .before .before .before .before .settle .ensures))
 
 same-length-8 : tie.Need-same-length-8
 same-length-8 c = search needs

@@ -7,15 +7,15 @@ use Rattle.trying.proofs.peels.run.Statement.{statement}
 use Rattle.trying.proofs.peels.run.Tie as tie
 
 abbrev Inv-loop : tie.InvT-loop
-Inv-loop n ends lit rows limit unsettled work₀ marks₀ forms₀ size turns₀ left₀ work marks forms turns left =
-    Goes n ends lit (rows .first .0) (rows .count) limit unsettled (record { marks = marks₀; forms = forms₀; work = work₀ })
+Inv-loop n ends lit rows limit fixed unsettled work₀ marks₀ forms₀ size turns₀ left₀ work marks forms turns left =
+    Goes n ends lit (rows .first .0) (rows .count) limit fixed unsettled (record { marks = marks₀; forms = forms₀; work = work₀ })
     (record { marks = marks; forms = forms; work = work }) turns left
 
 abbrev μ-loop : tie.MeasureT-loop
-μ-loop n ends lit rows limit unsettled work₀ marks₀ forms₀ size turns₀ left₀ work marks forms turns left = left
+μ-loop n ends lit rows limit fixed unsettled work₀ marks₀ forms₀ size turns₀ left₀ work marks forms turns left = left
 
 loop-holds : tie.Need-loop-holds Inv-loop μ-loop
-loop-holds c = goes-start _ _ _ _ _ _ _ _
+loop-holds c = goes-start _ _ _ _ _ _ _ _ _
 
 same-length : tie.Need-same-length Inv-loop μ-loop
 same-length c = c .before .before .loop .inv .stays .work-long
@@ -27,7 +27,7 @@ same-length-3 : tie.Need-same-length-3 Inv-loop μ-loop
 same-length-3 c = c .before .before .loop .inv .stays .forms-long
 
 returns : tie.Need-returns Inv-loop μ-loop
-returns c = goes-unknown _ _ _ _ _ _ _ _ _ (c .before .before .loop .inv .stays)
+returns c = goes-unknown _ _ _ _ _ _ _ _ _ _ (c .before .before .loop .inv .stays) (c .before .before .loop .inv .marks)
 
 peel-lowest-requires : tie.Need-peel-lowest-requires Inv-loop μ-loop
 peel-lowest-requires c κs =
@@ -47,7 +47,7 @@ same-length-6 : tie.Need-same-length-6 Inv-loop μ-loop
 same-length-6 c = c .before .before .before .before .before .before .before .before .peel-lowest .ensures .stays .forms-long ∙ c .before .before .before .before .before .before .before .before .before .before .before .before .before .before .loop .inv .stays .forms-long
 
 returns-2 : tie.Need-returns-2 Inv-loop μ-loop
-returns-2 c = let at = c .before .before .before .before .before .before .before .before .before .before .before .before .before .before in goes-not _ _ _ _ _ _ _ _ (record { marks = at .loop .marks; forms = at .loop .forms; work = at .loop .work }) _ _ (at .loop .inv) (omega (arith, c .before .before .before .before .before .before .before .before .before .before .before .before .before .loop-test .taken)) (c .before .before .before .before .before .before .before .before .before .before .before .before .if1 .left) _ _ (c .before .before .before .before .before .before .before .before .peel-lowest .ensures)
+returns-2 c = let at = c .before .before .before .before .before .before .before .before .before .before .before .before .before .before in goes-not _ _ _ _ _ _ _ _ _ (record { marks = at .loop .marks; forms = at .loop .forms; work = at .loop .work }) _ _ (at .loop .inv) (omega (arith, c .before .before .before .before .before .before .before .before .before .before .before .before .before .loop-test .taken)) (c .before .before .before .before .before .before .before .before .before .before .before .before .if1 .left) _ _ (c .before .before .before .before .before .before .before .before .peel-lowest .ensures)
 
 enum-told-2 : tie.Need-enum-told-2 Inv-loop μ-loop
 enum-told-2 c = search needs
@@ -62,7 +62,7 @@ same-length-9 : tie.Need-same-length-9 Inv-loop μ-loop
 same-length-9 c = c .before .before .before .before .before .before .before .before .peel-lowest .ensures .stays .forms-long ∙ c .before .before .before .before .before .before .before .before .before .before .before .before .before .before .loop .inv .stays .forms-long
 
 returns-3 : tie.Need-returns-3 Inv-loop μ-loop
-returns-3 c = let at = c .before .before .before .before .before .before .before .before .before .before .before .before .before .before in goes-left _ _ _ _ _ _ _ _ (record { marks = at .loop .marks; forms = at .loop .forms; work = at .loop .work }) _ _ (at .loop .inv) (omega (arith, c .before .before .before .before .before .before .before .before .before .before .before .before .before .loop-test .taken)) (c .before .before .before .before .before .before .before .before .before .before .before .before .if1 .left) _ _ (c .before .before .before .before .before .before .before .before .peel-lowest .ensures) (c .enum-told2 .given .1)
+returns-3 c = let at = c .before .before .before .before .before .before .before .before .before .before .before .before .before .before in goes-left _ _ _ _ _ _ _ _ _ (record { marks = at .loop .marks; forms = at .loop .forms; work = at .loop .work }) _ _ (at .loop .inv) (omega (arith, c .before .before .before .before .before .before .before .before .before .before .before .before .before .loop-test .taken)) (c .before .before .before .before .before .before .before .before .before .before .before .before .if1 .left) _ _ (c .before .before .before .before .before .before .before .before .peel-lowest .ensures) (c .enum-told2 .given .1)
 
 enum-told-3 : tie.Need-enum-told-3 Inv-loop μ-loop
 enum-told-3 c = search needs
@@ -77,7 +77,7 @@ loop-less : tie.Need-loop-less Inv-loop μ-loop
 loop-less c = search needs
 
 loop-again : tie.Need-loop-again Inv-loop μ-loop
-loop-again c = let at = c .before .before .before .before .before .before .before .before .before .before .before .before .before .before in goes-on _ _ _ _ _ _ _ _ (record { marks = at .loop .marks; forms = at .loop .forms; work = at .loop .work }) _ _ (at .loop .inv) (omega (arith, c .before .before .before .before .before .before .before .before .before .before .before .before .before .loop-test .taken)) (c .before .before .before .before .before .before .before .before .before .before .before .before .if1 .left) _ _ (c .before .before .before .before .before .before .before .before .peel-lowest .ensures) (c .enum-told3 .given .1)
+loop-again c = let at = c .before .before .before .before .before .before .before .before .before .before .before .before .before .before in goes-on _ _ _ _ _ _ _ _ _ (record { marks = at .loop .marks; forms = at .loop .forms; work = at .loop .work }) _ _ (at .loop .inv) (omega (arith, c .before .before .before .before .before .before .before .before .before .before .before .before .before .loop-test .taken)) (c .before .before .before .before .before .before .before .before .before .before .before .before .if1 .left) _ _ (c .before .before .before .before .before .before .before .before .peel-lowest .ensures) (c .enum-told3 .given .1)
 
 same-length-10 : tie.Need-same-length-10 Inv-loop μ-loop
 same-length-10 c = c .before .loop .inv .stays .work-long
@@ -89,7 +89,7 @@ same-length-12 : tie.Need-same-length-12 Inv-loop μ-loop
 same-length-12 c = c .before .loop .inv .stays .forms-long
 
 returns-4 : tie.Need-returns-4 Inv-loop μ-loop
-returns-4 c = goes-over _ _ _ _ _ _ _ _ (record { marks = c .before .loop .marks; forms = c .before .loop .forms; work = c .before .loop .work }) _ _ (c .before .loop .inv) (omega (arith, c .loop-test .left))
+returns-4 c = goes-over _ _ _ _ _ _ _ _ _ (record { marks = c .before .loop .marks; forms = c .before .loop .forms; work = c .before .loop .work }) _ _ (c .before .loop .inv) (omega (arith, c .loop-test .left))
 
 pub run-spec : {M : Type 1} → statement M
 run-spec =

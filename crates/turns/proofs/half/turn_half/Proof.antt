@@ -1,4 +1,5 @@
 -- `turns::half::turn_half` meets its contract. Assumes nothing.
+use Prim.Native.Nat.{zero-le}
 use native.Mathlib.Omega.{arith}
 use Rattle.turns.proofs.Marked.{half-failed, half-goes, counted-as}
 use borrow.Author.Needs.{needs}
@@ -33,7 +34,7 @@ run-requires c κs =
     let s = c .before .before .before .before .before .before .before .before .before .before .before .before .before .before .before .before .before .before in
     let p = s .pre in (
       (p .0, p .1, omega (arith, p .2, c .before .before .before .before .before .before .before .before .before .before .clear-words .ensures .long), p .3, p .4, p .5, p .6),
-      (search needs, counted-as _ (s .args .marks .now) 4 _ (p .1) (c .before .before .before .count-marks .ensures)),
+      (search needs, zero-le, counted-as _ (s .args .marks .now) 4 _ (p .1) (c .before .before .before .count-marks .ensures)),
     )
 
 same-length-3 : tie.Need-same-length-3
