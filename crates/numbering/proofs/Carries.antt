@@ -88,28 +88,31 @@ counted-nothing k weight bits down m z =
     }
 
 -- The bits of 2 ^ 64 - 1.
-pub all-ones : (b : ℕ) → b < 64 → bit 18446744073709551615 b ≡ true
+all-ones : (b : ℕ) → b < 64 → bit 18446744073709551615 b ≡ true
 unfolding bit
 all-ones b h = below-out 64 (bit 18446744073709551615) refl b h
 
+-- The other word has every column.
+pub counted-down : (k weight bits : ℕ) (m m′ : List ℕ) → Counted k weight bits (bit 18446744073709551615) m m′ → Counted k weight bits (λ b. true) m m′
+counted-down k weight bits m m′ v = record { long = v .long; sums = λ b h. rw (all-ones b h) at (v .sums b h); kept = v .kept }
+
 -- From plane `from` on.
-module _ (k from bits other : ℕ) (m m′ : List ℕ) (carry : ℕ) (s : Rippled (8192 + 16 * k) from 4 bits other m m′ carry) (down : ℕ → Bool)
-    (told : (b : ℕ) → b < 64 → bit other b ≡ down b) where
+module _ (k from bits other : ℕ) (m m′ : List ℕ) (carry : ℕ) (s : Rippled (8192 + 16 * k) from 4 bits other m m′ carry) where
   counted : (m″ : List ℕ) (r : ℕ → Bool) → length m″ ≡ length m
       → ((b : ℕ) → Carried (bit other b) (cond (bit bits b) (2 ^ from) 0) (cond (r b) 1024 0) (numberAt m (8192 + 16 * k) b 10) (numberAt m″ (8192 + 16 * k) b 10))
-      → ((j : ℕ) → (j < 8192 + 16 * k) ⊎ (8192 + 16 * k + 16 ≤ j) → getD m″ j 0 ≡ getD m j 0) → Counted k (2 ^ from) bits down m m″
+      → ((j : ℕ) → (j < 8192 + 16 * k) ⊎ (8192 + 16 * k + 16 ≤ j) → getD m″ j 0 ≡ getD m j 0) → Counted k (2 ^ from) bits (bit other) m m″
   counted m″ r long sums kept =
-      record { long = long; sums = λ b h. (r b, rw (number-at m k b h, number-at m″ k b h, ← told b h) (sums b)); kept = kept }
+      record { long = long; sums = λ b h. (r b, rw (number-at m k b h, number-at m″ k b h) (sums b)); kept = kept }
 
   outside : (j : ℕ) → (j < 8192 + 16 * k) ⊎ (8192 + 16 * k + 16 ≤ j) → getD m′ j 0 ≡ getD m j 0
   outside j h = s .kept j (⊎-elim (λ (l : j < 8192 + 16 * k). inl (omega arith)) (λ (l : 8192 + 16 * k + 16 ≤ j). inr (omega arith)) h)
 
   -- Nothing goes on to the fifth plane.
-  pub counted-low : carry ≡ 0 → Counted k (2 ^ from) bits down m m′
+  pub counted-low : carry ≡ 0 → Counted k (2 ^ from) bits (bit other) m m′
   counted-low z =
       counted m′ (λ b. false) (s .long) (λ b. rw (z, bit-zero b) at (s .sums 10 b (omega arith))) outside
 
-  pub counted-high : (m″ : List ℕ) (r : ℕ) → Rippled (8192 + 16 * k) 4 10 carry other m′ m″ r → Counted k (2 ^ from) bits down m m″
+  pub counted-high : (m″ : List ℕ) (r : ℕ) → Rippled (8192 + 16 * k) 4 10 carry other m′ m″ r → Counted k (2 ^ from) bits (bit other) m m″
   counted-high m″ r t =
       counted m″ (bit r) (t .long ∙ s .long)
       (λ b. carried-then (bit other b) _ (cond (bit carry b) 16 0) _ _ (numberAt m′ (8192 + 16 * k) b 10) _ (s .sums 10 b (omega arith)) (t .sums 10 b (omega arith)))

@@ -2,7 +2,7 @@
 // that is added changes 64 of them at once.
 ghost use mathlib.Core.Path.{_≡_};
 ghost use mathlib.Core.Bool.{true, not, _&&_};
-ghost use Prim.Native.Nat.{_+_, _≤_, _<_};
+ghost use Prim.Native.Nat.{_+_, _^_, _≤_, _<_};
 ghost use lib.Dec.{ltb};
 ghost use lib.ListN.{length};
 ghost use Rattle.binary.specs.Words.{bit, listed};
@@ -30,33 +30,18 @@ fn ripple(m: &mut [u64], at: usize, from: usize, end: usize, first: u64, other: 
     carry
 }
 
-// One more row in each column of word `k` that `bits` has, or one less where the other word has it too. Few numbers pass 15.
-fn count(m: &mut [u64], k: usize, bits: u64, other: u64)
-    requires { ⌜ (k < 16) × (10240 ≤ length (now m)) ⌝ }
-    ensures { λ _. ⌜ Counted k 1 bits (bit other) (now (m .entry)) (now (m .exit)) ⌝ }
+// In each column of word `k` that `bits` has the number grows by the weight of plane `plane`, or shrinks by it where the other word has it too. Few numbers pass 15.
+fn count(m: &mut [u64], k: usize, plane: usize, bits: u64, other: u64)
+    requires { ⌜ (k < 16) × (plane ≤ 4) × (10240 ≤ length (now m)) ⌝ }
+    ensures { λ _. ⌜ Counted k (2 ^ plane) bits (bit other) (now (m .entry)) (now (m .exit)) ⌝ }
 {
     if bits == 0 {
         return;
     }
     let at = PLANES + 16 * k;
-    let carry = ripple(m, at, 0, 4, bits, other);
+    let carry = ripple(m, at, plane, 4, bits, other);
     if carry != 0 {
         ripple(m, at, 4, 10, carry, other);
-    }
-}
-
-// Two rows less in each column of word `k` that `bits` has.
-fn count_two_less(m: &mut [u64], k: usize, bits: u64)
-    requires { ⌜ (k < 16) × (10240 ≤ length (now m)) ⌝ }
-    ensures { λ _. ⌜ Counted k 2 bits (λ _. true) (now (m .entry)) (now (m .exit)) ⌝ }
-{
-    if bits == 0 {
-        return;
-    }
-    let at = PLANES + 16 * k;
-    let carry = ripple(m, at, 1, 4, bits, u64::MAX);
-    if carry != 0 {
-        ripple(m, at, 4, 10, carry, u64::MAX);
     }
 }
 
@@ -73,7 +58,7 @@ fn add_words(m: &mut [u64], w: usize, from: usize, to: usize)
         let old = m[b + k];
         let bits = new & m[UNTAKEN + k];
         m[b + k] = old ^ new;
-        count(m, k, bits, old);
+        count(m, k, 0, bits, old);
         k += 1;
     }
 }
@@ -91,7 +76,7 @@ fn merge_words(m: &mut [u64], w: usize, from: usize, to: usize)
         let old = m[b + k];
         let bits = new & old & m[UNTAKEN + k];
         m[b + k] = old ^ new;
-        count_two_less(m, k, bits);
+        count(m, k, 1, bits, u64::MAX);
         k += 1;
     }
 }
@@ -171,7 +156,7 @@ fn number_row(m: &mut [u64], w: usize, i: usize)
     let mut k = 0;
     while k < w {
         let bits = m[a + k] & m[UNTAKEN + k];
-        count(m, k, bits, 0);
+        count(m, k, 0, bits, 0);
         k += 1;
     }
 }

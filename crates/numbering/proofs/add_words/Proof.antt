@@ -63,7 +63,7 @@ count-requires : tie.Need-count-requires Inv-loop μ-loop
 count-requires c κs =
     let l = c .before .before .before .before .before .loop in
     let h : 10240 ≤ length (l .m) = omega arith in
-    (omega arith, simp length-set h)
+    (omega arith, omega arith, simp length-set h)
 
 add-k : tie.Need-add-k Inv-loop μ-loop
 add-k c = omega arith

@@ -1,6 +1,4 @@
 -- `numbering::count` meets its contract. Assumes nothing.
-use mathlib.Core.Path.{refl}
-use Rattle.binary.specs.Words.{bit}
 use Rattle.numbering.proofs.Carries.{counted-nothing, counted-low, counted-high}
 use borrow.Author.Needs.{needs}
 use Rattle.numbering.proofs.count.Statement.{statement}
@@ -26,14 +24,14 @@ same-length c = search needs
 
 returns-2 : tie.Need-returns-2
 returns-2 c =
-    counted-high _ 0 _ _ _ _ _ (c .before .before .before .before .before .before .before .ripple .ensures) (bit _) (λ b h. refl) _ _ (c .before .before .ripple2 .ensures)
+    counted-high _ _ _ _ _ _ _ (c .before .before .before .before .before .before .before .ripple .ensures) _ _ (c .before .before .ripple2 .ensures)
 
 same-length-2 : tie.Need-same-length-2
 same-length-2 c = search needs
 
 returns-3 : tie.Need-returns-3
 returns-3 c =
-    counted-low _ 0 _ _ _ _ _ (c .before .before .before .ripple .ensures) (bit _) (λ b h. refl) (c .if2 .left)
+    counted-low _ _ _ _ _ _ _ (c .before .before .before .ripple .ensures) (c .if2 .left)
 
 pub count-spec : {M : Type 1} → statement M
 count-spec =

@@ -4,6 +4,7 @@ use Prim.Native.Nat.{_-_, _≤_}
 use native.Mathlib.Omega.{arith}
 use lib.ListN.{length, length-set}
 use borrow.Author.Needs.{needs}
+use Rattle.numbering.proofs.Carries.{counted-down}
 use Rattle.numbering.proofs.Counting.{Merging, joining-none, merging-more, joined}
 use Rattle.numbering.proofs.merge_words.Statement.{statement}
 use Rattle.numbering.proofs.merge_words.Tie as tie
@@ -59,11 +60,11 @@ mul-m c = omega arith
 slice-write-m : tie.Need-slice-write-m Inv-loop μ-loop
 slice-write-m c = omega arith
 
-count-two-less-requires : tie.Need-count-two-less-requires Inv-loop μ-loop
-count-two-less-requires c κs =
+count-requires : tie.Need-count-requires Inv-loop μ-loop
+count-requires c κs =
     let l = c .before .before .before .before .before .loop in
     let h : 10240 ≤ length (l .m) = omega arith in
-    (omega arith, simp length-set h)
+    (omega arith, omega arith, simp length-set h)
 
 add-k : tie.Need-add-k Inv-loop μ-loop
 add-k c = omega arith
@@ -74,7 +75,7 @@ loop-less c = omega arith
 loop-again : tie.Need-loop-again Inv-loop μ-loop
 loop-again c =
     let l = c .before .before .before .before .before .before .before .before in
-    let r = merging-more _ _ _ _ _ _ (search needs) (search needs) (search needs) (search needs) (l .loop .inv .2) (search needs) _ (c .before .before .count-two-less .ensures) in
+    let r = merging-more _ _ _ _ _ _ (search needs) (search needs) (search needs) (search needs) (l .loop .inv .2) (search needs) _ (counted-down _ _ _ _ _ (c .before .before .count .ensures)) in
     (omega arith, r .long, r)
 
 same-length : tie.Need-same-length Inv-loop μ-loop
@@ -106,7 +107,7 @@ merge-words-spec =
     add-m
     mul-m
     slice-write-m
-    count-two-less-requires
+    count-requires
     add-k
     loop-less
     loop-again
