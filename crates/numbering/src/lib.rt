@@ -1,7 +1,7 @@
 // The number of rows that have each untaken column, kept as rows are added. The numbers lie in bit planes, a bit of 64 numbers to a word, so that a row
 // that is added changes 64 of them at once.
 ghost use mathlib.Core.Path.{_≡_};
-ghost use mathlib.Core.Bool.{true, not, _&&_};
+ghost use mathlib.Core.Bool.{not, _&&_};
 ghost use Prim.Native.Nat.{_+_, _^_, _≤_, _<_};
 ghost use lib.Dec.{ltb};
 ghost use lib.ListN.{length};

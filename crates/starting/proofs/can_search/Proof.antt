@@ -1,7 +1,6 @@
 -- `starting::can_search` meets its contract. Assumes nothing.
 use mathlib.Core.Path.{refl}
 use Rattle.starting.specs.Starting.{searchable?}
-use borrow.Author.Needs.{needs}
 use Rattle.starting.proofs.can_search.Statement.{statement}
 use Rattle.starting.proofs.can_search.Tie as tie
 

@@ -1,11 +1,10 @@
 -- `trying::try_turns` meets its contract. Assumes nothing.
-use mathlib.Core.Path.{_≡_, refl, sym, ap, _∙_, subst}
+use mathlib.Core.Path.{_≡_, refl, sym, _∙_, subst}
 use mathlib.Core.Bool.{Bool, true, false}
 use native.Mathlib.Omega.{arith}
 use borrow.Author.Tests.{not-false}
 use Rattle.binary.proofs.Bits.{never}
 use Rattle.turns.specs.Turns.{Working}
-use Rattle.trying.specs.declared.TryAnswer.{TryAnswer}
 use Rattle.trying.specs.Trying.{Tried}
 use Rattle.trying.proofs.Trying.{fits-out, tries-refused, tries-told, tries-unknown}
 use borrow.Author.Needs.{needs}

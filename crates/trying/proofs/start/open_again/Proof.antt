@@ -1,6 +1,5 @@
 -- `trying::start::open_again` meets its contract. Assumes nothing.
 use borrow.Author.Tests.{eq-eqb, ne-eqb}
-use borrow.Author.Needs.{needs}
 use Rattle.trying.proofs.start.open_again.Statement.{statement}
 use Rattle.trying.proofs.start.open_again.Tie as tie
 

@@ -1,5 +1,4 @@
 -- `turns::half::go_on_marked` meets its contract. Assumes nothing.
-use native.Mathlib.Omega.{arith}
 use Rattle.turns.specs.Turns.{Working}
 use Rattle.turns.proofs.Marked.{half-rest, ran-half, counted-as}
 use borrow.Author.Needs.{needs}
