@@ -1,6 +1,6 @@
 -- The start of a half in the lists.
 --   openMark     the marks before the fixed qubits are known
---   fixedBy      the fixed qubits, of the other kind's rows in the lists; fixedIn: the same
+--   fixedBy      the fixed qubits, by the other kind's rows in the lists; fixedIn: in the lists of a half
 --   Keeps        what is kept of the half's own rows is right over the marks
 --   Saves        what is kept of the rows copied, and back: Restores
 --   PeeledFirst  whether the lost qubits peel away

@@ -12,7 +12,7 @@ use mathlib.Core.Path.{_≡_}
 use mathlib.Core.Bool.{Bool, true, false, _&&_, cond}
 use mathlib.Core.Option.{none}
 use mathlib.Core.List.{List}
-use Prim.Native.Nat.{ℕ, suc, _-_, _*_, _≤_}
+use Prim.Native.Nat.{ℕ, suc, _*_, _≤_}
 use lib.Dec.{eqb}
 use lib.ListN.{length, getD, set}
 use Rattle.binary.specs.Meaning.{Qubits}
@@ -25,7 +25,7 @@ use Rattle.forms.specs.Forms.{Topped}
 use Rattle.scans.specs.Rows.{RowLists, rowsIn, rowChecks, GoodRows}
 use Rattle.turns.specs.Lists.{stateOf}
 use Rattle.turns.specs.Turns.{Working, Stays, isGuessed, turnBy, runFrom}
-use Rattle.turns.specs.Runs.{Ran}
+use Rattle.turns.specs.Runs.{Ran, restOf}
 use Rattle.trying.specs.declared.Peel.{Peel}
 use Rattle.trying.specs.declared.Peel.the-variants.{NoRow, Made}
 use Rattle.trying.specs.declared.TryAnswer.{TryAnswer}
@@ -85,7 +85,7 @@ pub record Peels (n : ℕ) (ends lit : List ℕ) (first count : ℕ) (old new : 
 -- After `made` turns: from here the half goes on as it does from its start, with every budget, and without a guess it is spent.
 pub record Stuck (n : ℕ) (c : RowLists) (limit made : ℕ) (l : Working) (whole : ℕ → End) : Type 0 where
   pub ready : Ready n c l
-  pub rest : (budget : ℕ) → runFrom n c budget limit (suc (limit - made)) l 0 made ≡ whole budget
+  pub rest : (budget : ℕ) → restOf n c budget limit made l ≡ whole budget
   pub spent : whole 0 .word ≡ Spent
 
 -- What is answered of a half that ends so with each budget: where it is over, report and lists are those of the end, which is certain, with any; where a qubit is left,
