@@ -17,12 +17,12 @@ use Rattle.machine.specs.Machine.{Half, isOpen}
 use Rattle.machine.specs.Report.{Shown, shown, outcome}
 use Rattle.machine.specs.Lists.{HalfLists, Shows, SameLengths, seen}
 use Rattle.machine.specs.Unread.{before, AllReadLaw}
-use Rattle.machine.specs.Demands.{Obeys, VerdictLaw, CountedLaw, FillingsLaw, ClassesLaw, BudgetsLaw, ReachLaw}
+use Rattle.machine.specs.Demands.{Obeys, VerdictLaw, CountedLaw, EmptiedLaw, FillingsLaw, ClassesLaw, BudgetsLaw, ReachLaw}
 use Rattle.machine.specs.OneWord.{OneWord, OneWordLaw}
 use Rattle.machine.specs.Candidates.{Candidates, CandidatesLaw}
 use Rattle.machine.proofs.FormWords.{one-word}
 use Rattle.machine.proofs.Candidates.{over-shut-all, candidates}
-use Rattle.machine.proofs.Demands.{verdict, counted, fillings, classes, budgets, reach}
+use Rattle.machine.proofs.Demands.{verdict, counted, emptied, fillings, classes, budgets, reach}
 use Rattle.machine.proofs.Unread.{all-read}
 use Rattle.machine.proofs.Seen.{seen-is}
 use Rattle.records.specs.declared.Report.{Report}
@@ -32,7 +32,7 @@ use Rattle.records.specs.declared.Refusal.the-variants.{Codeless, Spoiled, Shor
 use Rattle.records.specs.declared.Answer.{Answer}
 use Rattle.records.specs.declared.Answer.the-variants.{Taken, Decoded}
 use Rattle.records.specs.Records.{Pauli, X, Z, lost, Record, report, encodes, recordOf}
-use Rattle.records.specs.History.{Code, Shot, History, empty, ready, other, half}
+use Rattle.records.specs.History.{Code, Shot, History, empty, ready, half}
 use Rattle.records.specs.Lowest.{lowest, Numbered}
 use Rattle.records.specs.Table.{refusalNumber, tests, refusal, NumberedLaw, afterwards}
 use Rattle.records.specs.Lists.{Lists, Six, Lent, shortLists, shortHalf, shortSix, marks, ShotIn, Holds, Represents}
@@ -42,7 +42,6 @@ use Rattle.records.proofs.Numbers.{lowest-numbered}
 use Rattle.claim.specs.Calls.{Passed, passedOf, Step, lent, Call, step, look, Keeps, stateLeft, listsLeft, Run, call, makes, past, Place, at, begins, stateAfter}
 use Rattle.claim.specs.Window.{reportsBy, reportsOf, reportFor, KeptIn}
 use Rattle.claim.proofs.Window.{kept-none, kept-after, read-fresh}
-use Rattle.claim.proofs.Unread.{AllRead, past-read}
 use Rattle.claim.proofs.Candidates.{classes-shown}
 use Rattle.claim.specs.Candidates.{ClassesShown}
 use Rattle.claim.specs.Claim.{Told, listsFor, shows, Reported, HalfRight, SameHalf, Claim}
@@ -276,11 +275,12 @@ agreed k p j e f =
 -- The claim
 
 half-right : (h : Half) → Obeys h → (budget limit : ℕ) → HalfRight h budget limit (outcome h budget limit)
-unfolding VerdictLaw CountedLaw FillingsLaw ClassesLaw ReachLaw
+unfolding VerdictLaw CountedLaw EmptiedLaw FillingsLaw ClassesLaw ReachLaw
 half-right h good budget limit =
     record {
       verdict = verdict h good budget limit;
       counted = counted h good budget limit;
+      emptied = emptied h budget limit;
       reach = reach h budget limit;
       fillings = fillings h good budget limit;
       classes = classes h good budget limit;
@@ -331,9 +331,7 @@ claim =
           let z = shown-as k p c s budget limit r v in
           subst (λ (x : Shown). OneWord (c .n) x (listsFor b (k .left .six))) (sym (z .same b))
           (half-one-word (half b c s) budget limit few (listsFor b (k .six)) (listsFor b (k .left .six)) (z .listed b));
-      before = λ k p c s budget limit r v read b.
-          let unmarked : AllRead (ready c s) = subst AllRead (v .at) (past-read (p .lists) empty (p .before) read tt) in
-          shown-as k p c s budget limit r v .same b ∙ half-read (half b c s) (λ i. ap (λ (f : ℕ → Bool). f i) (unmarked (other b))) budget limit;
+      before = λ k p c s budget limit r v b read. shown-as k p c s budget limit r v .same b ∙ half-read (half b c s) read budget limit;
       agreed = agreed;
       entered = λ k p. placed (step k) p .kept .window;
       kept = λ k p.

@@ -1,4 +1,3 @@
-pub mod Unread
 pub mod Candidates
 pub mod Window
 pub mod Claim

@@ -6,7 +6,6 @@
 --   Run     calls that each keep their promise and begin with state and lists as the last one left them
 --   makes   the code and shot that a call makes, told from its bytes and from whether a lent list was short; past: those that calls make
 --   Place   a call in a run from a fresh start, and where it stands
---   Read    the call marks no row unread
 use mathlib.Core.Path.{_≡_}
 use mathlib.Core.List.{List, [], _∷_, _++_}
 use Prim.Native.Nat.{ℕ}
@@ -14,7 +13,7 @@ use Rattle.records.specs.declared.Phase.the-variants.{Empty}
 use Rattle.records.specs.declared.State.{State}
 use Rattle.records.specs.declared.Reply.{Reply}
 use Rattle.records.specs.declared.WindowAnswer.{WindowAnswer}
-use Rattle.records.specs.Records.{Pauli, unread, add, recordOf}
+use Rattle.records.specs.Records.{recordOf}
 use Rattle.records.specs.History.{History, empty}
 use Rattle.records.specs.Table.{afterwards}
 use Rattle.records.specs.Lists.{Lists, held, Six, Lent}
@@ -104,8 +103,3 @@ begins l (k ∷ ks) = begins (listsLeft l k) ks
 abbrev pub stateAfter : State → List Call → State
 stateAfter st [] = st
 stateAfter st (k ∷ ks) = stateAfter (stateLeft st k) ks
-
--- The call is no record of kind 6 or 7.
-abbrev pub Read : Call → Type 0
-Read (step k) = (p : Pauli) (r : ℕ) → recordOf (k .bytes) ≡ add (unread p) r → ⊥
-Read (look a) = Unit {0}

@@ -8,7 +8,6 @@ use mathlib.Core.Bool.{true, false}
 use mathlib.Core.Logic.{_⊎_}
 use mathlib.Core.List.{[], _++_}
 use Prim.Native.Nat.{ℕ, _≤_}
-use Rattle.binary.specs.Meaning.{All}
 use Rattle.machine.specs.declared.Word.the-variants.{None}
 use Rattle.machine.specs.Words.{finished?}
 use Rattle.machine.specs.Machine.{Half, isOpen}
@@ -16,7 +15,7 @@ use Rattle.machine.specs.Report.{Shown, shown}
 use Rattle.machine.specs.Lists.{HalfLists, seen}
 use Rattle.machine.specs.Unread.{before}
 use Rattle.machine.specs.OneWord.{OneWord}
-use Rattle.machine.specs.Demands.{Verdict, Counted, Fillings, Classes, Reach}
+use Rattle.machine.specs.Demands.{Verdict, Counted, Emptied, Fillings, Classes, Reach}
 use Rattle.records.specs.declared.Report.{Report}
 use Rattle.records.specs.declared.WindowAnswer.{WindowAnswer}
 use Rattle.records.specs.declared.Answer.the-variants.{Taken, Decoded}
@@ -26,7 +25,7 @@ use Rattle.records.specs.Lowest.{Numbered}
 use Rattle.records.specs.Table.{refusalNumber}
 use Rattle.records.specs.Lists.{Six, Represents}
 use Rattle.records.specs.Promise.{refusalAt, testsAt, answerOf, Left, Written, Unworked, WindowLeft}
-use Rattle.claim.specs.Calls.{Passed, Step, lent, Call, step, look, stateLeft, listsLeft, Run, makes, Place, at, begins, stateAfter, Read}
+use Rattle.claim.specs.Calls.{Passed, Step, lent, Call, step, look, stateLeft, listsLeft, Run, makes, Place, at, begins, stateAfter}
 use Rattle.claim.specs.Window.{reportsBy, reportsOf, reportFor, ReadOf, KeptIn}
 use Rattle.claim.specs.Candidates.{ClassesShown}
 
@@ -56,10 +55,12 @@ pub record Reported (a : History) (k : Step) (c : Code) (s : Shot) (budget limit
   pub decode : recordOf (k .bytes) ≡ report budget limit
   pub answer : k .reply .answer ≡ Decoded r
 
--- Demands 2 and 3, of what a decode shows of a half, that its counts are those of the turns made, and how far its forms reach.
+-- Demands 2 and 3, of what a decode shows of a half, that its counts are those of the turns made, each of which settled one qubit, what is 0 after none, spent
+-- and stopped, and how far its forms reach.
 pub record HalfRight (h : Half) (budget limit : ℕ) (s : Shown) : Type 0 where
   pub verdict : Verdict h budget limit s
   pub counted : Counted h s
+  pub emptied : Emptied s
   pub reach : Reach budget s
   pub fillings : (s .report .word ≡ None → ⊥) → Fillings h s
   pub classes : (s .report .word ≡ None → ⊥) → ((q : ℕ) → isOpen (s .mark) q ≡ false) → Classes h s
@@ -90,9 +91,9 @@ pub record Claim : Type 0 where
   -- Each half that a decode with a budget up to 63 reports has its forms in their first words; the other three words of each are 0.
   pub one-word : (k : Step) (p : Place (step k)) (c : Code) (s : Shot) (budget limit : ℕ) (r : Report) → Reported (at p) k c s budget limit r
       → budget ≤ 63 → (b : Pauli) → OneWord (c .n) (shows b c r k) (listsFor b (k .left .six))
-  -- Without records of kinds 6 and 7 before it, each half that a decode reports comes out as document 01 alone has it, every row read.
+  -- Each half that a decode reports, of whose rows none is unread in this shot, comes out as where every row is taken as read.
   pub before : (k : Step) (p : Place (step k)) (c : Code) (s : Shot) (budget limit : ℕ) (r : Report) → Reported (at p) k c s budget limit r
-      → All Read (p .before) → (b : Pauli) → shows b c r k ≡ shown (c .n) (before (half b c s) budget limit)
+      → (b : Pauli) → ((i : ℕ) → half b c s .unread i ≡ false) → shows b c r k ≡ shown (c .n) (before (half b c s) budget limit)
   -- A record of kind 8 that agrees leaves every list as it was, and the calls without it are a run too: each call after it, in the middle of a shot too,
   -- is as if it had not come.
   pub agreed : (k : Step) (p : Place (step k)) (j : ℕ) → recordOf (k .bytes) ≡ encodes j → k .reply .answer ≡ Taken

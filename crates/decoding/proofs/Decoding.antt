@@ -25,7 +25,7 @@ use Rattle.records.specs.States.{withoutCode, endedOf, openedOf, reportedOf, sa
 use Rattle.records.specs.Window.{oneMore, placeOf, Entered}
 use Rattle.records.specs.Promise.{ShotLeft, refusalAt, Carried, Promised}
 use Rattle.records.proofs.HeldStates.{holds-ended, holds-reported, holds-left, no-code, with-code}
-use Rattle.records.proofs.Answers.{past-same, says-refused, says-nothing, unchanged, carried}
+use Rattle.records.proofs.Answers.{past-same, says-refused, says-nothing, spared, unchanged, carried}
 use Rattle.records.proofs.Range.{InRange, range-out, LongLists, long-lists, LongHalf, long-half}
 use Rattle.readout.specs.Readout.{Begun}
 use Rattle.readout.proofs.Shots.{left-begun, holds-opened}
@@ -111,6 +111,9 @@ module _ (budget limit : ℕ) (st : State) (l : Lent) (reply : Reply) where
   refuse n e f =
       record {
         lengths = unchanged l;
+        spares = spared w (l .lists);
+        work = λ i. refl;
+        six = λ i. refl;
         x-past = past-same (st .sizes .n) (l .six .x);
         z-past = past-same (st .sizes .n) (l .six .z);
         refused = λ m i. refl;
@@ -143,18 +146,22 @@ module _ (budget limit : ℕ) (st : State) (l : Lent) (reply : Reply) where
 ----------------------------------------------------------------------
 -- Carried out
 
+-- The shot's list has a part for the rows.
+pub shot-long : (st : State) (flat ends shot shot′ window work : List ℕ) (six : Six) → Passes st (lacking? (st .sizes) (lentOf (held flat ends shot) window work six))
+    → Begun st shot shot′ → 1024 ≤ length shot′
+shot-long st flat ends shot shot′ window work six p b =
+    omega (arith, whole (st .sizes) (lentOf (held flat ends shot) window work six) (p .whole) .lists .shot, b .long)
+
 module _ (budget limit : ℕ) (st : State) (flat ends shot shot′ window work : List ℕ) (six : Six)
     (p : Passes st (lacking? (st .sizes) (lentOf (held flat ends shot) window work six))) (b : Begun st shot shot′) where
   abbrev old : Lent
   old = lentOf (held flat ends shot) window work six
 
-  pub halves-fit : (1024 ≤ length shot′) × BothFit (st .sizes) budget limit (held flat ends shot′) (length work) six
+  halves-fit : BothFit (st .sizes) budget limit (held flat ends shot′) (length work) six
   halves-fit =
-      let o = whole (st .sizes) old (p .whole) in (
-        omega (arith, o .lists .shot, b .long),
-        both-fit (st .sizes) budget limit (held flat ends shot′) (length window) (length work) six (o .range)
-            (record { flat = o .lists .flat; ends = o .lists .ends; shot = omega (arith, o .lists .shot, b .long); window = o .lists .window; work = o .lists .work }) (o .x) (o .z),
-      )
+      let o = whole (st .sizes) old (p .whole) in
+      both-fit (st .sizes) budget limit (held flat ends shot′) (length window) (length work) six (o .range)
+      (record { flat = o .lists .flat; ends = o .lists .ends; shot = omega (arith, o .lists .shot, b .long); window = o .lists .window; work = o .lists .work }) (o .x) (o .z)
 
   no-refusal : (c : Code) (s : Shot) → Holds c s st (old .lists) → refusalAt (report budget limit) (ready c s) old ≡ none
   unfolding refusal lacking?
@@ -180,7 +187,8 @@ module _ (budget limit : ℕ) (st : State) (flat ends shot shot′ window work :
       done =
           let good : (q : Pauli) → Obeying (givenOf q (sizesOf c) (new .lists) budget limit)
           = λ q. obeying c s (new .lists) (v .flat) (left .held) budget limit q (v .good-xs .ascending) (v .good-zs .ascending) (v .commute) (v .on) in
-          let t = (subst (λ (z : Sizes). Reports z budget limit (new .lists) work work′ six six′ rep) (v .sizes) d) .decoded (good X) (good Z) in (
+          let fit = subst (λ (z : Sizes). BothFit z budget limit (new .lists) (length work) six) (v .sizes) halves-fit in
+          let t = (subst (λ (z : Sizes). Reports z budget limit (new .lists) work work′ six six′ rep) (v .sizes) d) .decoded fit (good X) (good Z) in (
             t .0 ∙ ap₂ (λ (x z : Shown). record { x = x .report; z = z .report }) (same X) (same Z),
             subst (λ (u : Shown). Shows (c .n) u (six .x) (six′ .x)) (same X) (t .1),
             subst (λ (u : Shown). Shows (c .n) u (six .z) (six′ .z)) (same Z) (t .2),
@@ -203,6 +211,9 @@ module _ (budget limit : ℕ) (st : State) (flat ends shot shot′ window work :
         let e = entered (f .0) (f .1) in
         record {
           lengths = record { flat = refl; ends = refl; shot = b .long; window = e .0 .long; work = d .work-long; x = d .x-long; z = d .z-long };
+          spares = record { flat = λ i. refl; ends = λ i. refl; shot = λ i. never refl i };
+          work = λ i. never refl i;
+          six = λ i. never refl i;
           x-past = d .x-past;
           z-past = d .z-past;
           refused = λ n i. let j = f .2 in let z : _≡_ {A = ℕ} 0 1 = cc in absurd (omega arith);

@@ -1,5 +1,5 @@
 -- The two halves of a decode: what the lists hold of them, and what their decodes come to. Assumes nothing.
-use mathlib.Core.Path.{_≡_, sym, ap, _∙_, subst, fun-ext}
+use mathlib.Core.Path.{_≡_, sym, ap, ap₂, _∙_, subst, fun-ext}
 use mathlib.Core.Bool.{Bool, true, _&&_}
 use mathlib.Core.List.{List, _++_}
 use Prim.Native.Nat.{ℕ, _+_, _-_, _≤_, _<_}
@@ -23,7 +23,6 @@ use Rattle.machine.specs.Machine.{Half}
 use Rattle.machine.specs.Report.{outcome}
 use Rattle.machine.specs.Lists.{HalfLists}
 use Rattle.halves.specs.declared.HalfAnswer.{HalfAnswer}
-use Rattle.halves.specs.declared.HalfAnswer.the-variants.{Refused, Decoded}
 use Rattle.halves.specs.Starts.{RowsObey}
 use Rattle.scans.specs.Rows.{RowLists, ListedIn}
 use Rattle.halves.specs.Decode.{Given, fitting, Decodes}
@@ -32,40 +31,35 @@ use Rattle.records.specs.Records.{Pauli, X, Z, lost, lit, unread}
 use Rattle.records.specs.History.{Code, sizesOf, Shot, half}
 use Rattle.records.specs.Lists.{Lists, Six, marks, HeldShot}
 use Rattle.records.proofs.Range.{InRange, LongLists, LongHalf}
-use Rattle.decoding.specs.Decoding.{readingsOf, givenBy, givenOf, shownOf, BothFit, Obeying, Reports}
+use Rattle.decoding.specs.Decoding.{readingsOf, givenBy, givenOf, shownOf, reportIn, BothFit, Obeying, Reports}
 
 ----------------------------------------------------------------------
 -- Both decoded
 
-module _ (z : Sizes) (budget limit : ℕ) (l : Lists) (readings : List ℕ) (told : readings ≡ readingsOf (l .shot)) (work work′ : List ℕ) (x zed x′ : HalfLists)
-    (r : HalfAnswer) (fit : BothFit z budget limit l (length work) (record { x = x; z = zed })) (by : Decodes (givenBy X z l readings budget limit) work work′ x x′ r) where
+module _ (z : Sizes) (budget limit : ℕ) (l : Lists) (readings : List ℕ) (told : readings ≡ readingsOf (l .shot)) (work work′ work″ : List ℕ) (x zed x′ zed′ : HalfLists)
+    (r s : HalfAnswer) (a b : HalfReport) (by : Decodes (givenBy X z l readings budget limit) work work′ x x′ r) (then : Decodes (givenBy Z z l readings budget limit) work′ work″ zed zed′ s) where
   d : Decodes (givenOf X z l budget limit) work work′ x x′ r
   d = subst (λ (k : List ℕ). Decodes (givenBy X z l k budget limit) work work′ x x′ r) told by
 
-  pub x-decoded : {C : Type 0} → r ≡ Refused → C
-  x-decoded e = absurd (d .answered (fit .x) e)
+  f : Decodes (givenOf Z z l budget limit) work′ work″ zed zed′ s
+  f = subst (λ (k : List ℕ). Decodes (givenBy Z z l k budget limit) work′ work″ zed zed′ s) told then
 
-  module _ (work″ : List ℕ) (zed′ : HalfLists) (s : HalfAnswer) (then : Decodes (givenBy Z z l readings budget limit) work′ work″ zed zed′ s) where
-    f : Decodes (givenOf Z z l budget limit) work′ work″ zed zed′ s
-    f = subst (λ (k : List ℕ). Decodes (givenBy Z z l k budget limit) work′ work″ zed zed′ s) told then
-
-    z-fits : fitting (givenOf Z z l budget limit) (length work′) zed ≡ true
-    z-fits = rw (d .work-long) (fit .z)
-
-    pub z-decoded : {C : Type 0} → s ≡ Refused → C
-    z-decoded e = absurd (f .answered z-fits e)
-
-    pub both-decoded : (a b : HalfReport) → r ≡ Decoded a → s ≡ Decoded b
-        → Reports z budget limit l work work″ (record { x = x; z = zed }) (record { x = x′; z = zed′ }) (record { x = a; z = b })
-    both-decoded a b e g =
-        record {
-          work-long = f .work-long ∙ d .work-long;
-          x-long = d .lengths;
-          z-long = f .lengths;
-          x-past = d .past;
-          z-past = f .past;
-          decoded = λ m n. let u = d .decoded (fit .x) m in let v = f .decoded z-fits n in (cc, u .1, v .1);
-        }
+  pub both-decoded : a ≡ reportIn r → b ≡ reportIn s
+      → Reports z budget limit l work work″ (record { x = x; z = zed }) (record { x = x′; z = zed′ }) (record { x = a; z = b })
+  both-decoded e g =
+      record {
+        work-long = f .work-long ∙ d .work-long;
+        x-long = d .lengths;
+        z-long = f .lengths;
+        x-past = d .past;
+        z-past = f .past;
+        x-unfit = λ i. e ∙ ap reportIn (d .refused i .0);
+        z-unfit = λ i. g ∙ ap reportIn (f .refused (rw (d .work-long) i) .0);
+        decoded = λ fit m n.
+            let u = d .decoded (fit .x) m in
+            let v = f .decoded (rw (d .work-long) (fit .z)) n in
+            (ap₂ (λ (p q : HalfReport). record { x = p; z = q }) (e ∙ ap reportIn (u .0)) (g ∙ ap reportIn (v .0)), u .1, v .1);
+      }
 
 ----------------------------------------------------------------------
 -- Sizes and lists fit

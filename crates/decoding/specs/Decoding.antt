@@ -1,16 +1,20 @@
 -- What a decode does, beside the promise of its record.
 --   readingsOf  the part of the shot's list that has the rows' elements
 --   givenOf     what a half is decoded from: X errors from the Z rows, Z errors from the X rows
+--   undecoded   what is reported of a half whose sizes or lists do not fit; reportIn: of any answer
 --   BothFit     both halves are decoded
 --   Reports     what the decode of both halves does
 --   Replies     the reply to it, and what it leaves in the window
 use mathlib.Core.Path.{_≡_}
-use mathlib.Core.Bool.{true}
+use mathlib.Core.Bool.{true, false}
 use mathlib.Core.List.{List}
 use Prim.Native.Nat.{ℕ}
 use lib.ListN.{length, drop}
+use Rattle.machine.specs.declared.Word.the-variants.{Stopped}
+use Rattle.machine.specs.declared.HalfReport.{HalfReport}
 use Rattle.machine.specs.Report.{Shown, outcome}
 use Rattle.machine.specs.Lists.{Past, Shows, SameLengths}
+use Rattle.halves.specs.declared.HalfAnswer.{HalfAnswer}
 use Rattle.halves.specs.Lists.{halfOf}
 use Rattle.halves.specs.Starts.{RowsObey}
 use Rattle.halves.specs.Decode.{Given, ownRows, fitting}
@@ -70,6 +74,14 @@ pub record BothFit (sizes : Sizes) (budget limit : ℕ) (l : Lists) (work : ℕ)
   pub x : fitting (givenOf X sizes l budget limit) work (six .x) ≡ true
   pub z : fitting (givenOf Z sizes l budget limit) work (six .z) ≡ true
 
+-- Stopped before its first turn. No decode that is not refused meets it.
+abbrev pub undecoded : HalfReport
+undecoded = record { word = Stopped; fixed = 0; turns = 0; guesses = 0; live = 0 }
+
+abbrev pub reportIn : HalfAnswer → HalfReport
+reportIn (HalfAnswer.Decoded r) = r
+reportIn HalfAnswer.Refused = undecoded
+
 -- The half's rows and the other kind's obey document 01.
 abbrev pub Obeying : Given → Type 0
 Obeying g = RowsObey (g .n) (ownRows g) (g .other) (g .others)
@@ -80,7 +92,9 @@ pub record Reports (z : Sizes) (budget limit : ℕ) (l : Lists) (work work′ : 
   pub z-long : SameLengths (old .z) (new .z)
   pub x-past : Past (z .n) (old .x) (new .x)
   pub z-past : Past (z .n) (old .z) (new .z)
-  pub decoded : Obeying (givenOf X z l budget limit) → Obeying (givenOf Z z l budget limit)
+  pub x-unfit : fitting (givenOf X z l budget limit) (length work) (old .x) ≡ false → r .x ≡ undecoded
+  pub z-unfit : fitting (givenOf Z z l budget limit) (length work) (old .z) ≡ false → r .z ≡ undecoded
+  pub decoded : BothFit z budget limit l (length work) old → Obeying (givenOf X z l budget limit) → Obeying (givenOf Z z l budget limit)
       → (r ≡ record { x = shownOf (givenOf X z l budget limit) .report; z = shownOf (givenOf Z z l budget limit) .report })
       × Shows (z .n) (shownOf (givenOf X z l budget limit)) (old .x) (new .x)
       × Shows (z .n) (shownOf (givenOf Z z l budget limit)) (old .z) (new .z)

@@ -5,7 +5,7 @@ ghost use lib.ListN.{length};
 ghost use Rattle.records.specs.Records.{report};
 ghost use Rattle.records.specs.Lists.{held, sixOf, lentOf};
 ghost use Rattle.records.specs.Promise.{Promised};
-ghost use Rattle.decoding.specs.Decoding.{readingsOf, BothFit, Reports, Replies};
+ghost use Rattle.decoding.specs.Decoding.{readingsOf, reportIn, Reports, Replies};
 use code::Row;
 use code::Rows;
 use decodable::Test;
@@ -34,16 +34,20 @@ fn readings<'a>(shot: &'a [u8]) -> &'a [u8]
     &shot[from..end]
 }
 
-// For a half that is not decoded, of which there is none.
-fn no_report() -> Report {
-    let half = HalfReport {
-        word: Word::None,
-        fixed: 0,
-        turns: 0,
-        guesses: 0,
-        live: 0,
-    };
-    Report { x: half, z: half }
+// What is reported of a half. One whose sizes or lists do not fit is told as stopped before its first turn.
+fn report_in(answer: HalfAnswer) -> HalfReport
+    ensures { λ r. ⌜ r ≡ reportIn answer ⌝ }
+{
+    match answer {
+        HalfAnswer::Decoded(report) => report,
+        HalfAnswer::Refused => HalfReport {
+            word: Word::Stopped,
+            fixed: 0,
+            turns: 0,
+            guesses: 0,
+            live: 0,
+        },
+    }
 }
 
 // Both halves: X errors from the Z rows, Z errors from the X rows.
@@ -63,7 +67,6 @@ fn decode_halves(
     z_correction: &mut [u8],
 ) -> Report
     requires { ⌜ 1024 ≤ length (now shot) ⌝ }
-    requires { ⌜ BothFit sizes budget limit (held (now flat) (now ends) (now shot)) (length (now work)) (sixOf (now «x_marks») (now «x_forms») (now «x_correction») (now «z_marks») (now «z_forms») (now «z_correction»)) ⌝ }
     ensures { λ r. ⌜ Reports sizes budget limit (held (now (flat .entry)) (now (ends .entry)) (now (shot .entry))) (now (work .entry)) (now (work .exit)) (sixOf (now («x_marks» .entry)) (now («x_forms» .entry)) (now («x_correction» .entry)) (now («z_marks» .entry)) (now («z_forms» .entry)) (now («z_correction» .entry))) (sixOf (now («x_marks» .exit)) (now («x_forms» .exit)) (now («x_correction» .exit)) (now («z_marks» .exit)) (now («z_forms» .exit)) (now («z_correction» .exit))) r ⌝ }
 {
     let n = sizes.n;
@@ -93,9 +96,6 @@ fn decode_halves(
         x_forms,
         x_correction,
     );
-    let HalfAnswer::Decoded(x_report) = of_x else {
-        return no_report();
-    };
     let of_z = decode_half(
         n,
         flat,
@@ -111,12 +111,9 @@ fn decode_halves(
         z_forms,
         z_correction,
     );
-    let HalfAnswer::Decoded(z_report) = of_z else {
-        return no_report();
-    };
     Report {
-        x: x_report,
-        z: z_report,
+        x: report_in(of_x),
+        z: report_in(of_z),
     }
 }
 

@@ -336,6 +336,7 @@ counted h obeys budget limit =
       turns = c .turns;
       guesses = refl;
       live = refl;
+      left = c .left;
       marks = λ e q. rw e;
       forms = λ e q k. rw e;
     }

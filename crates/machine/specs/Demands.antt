@@ -129,7 +129,8 @@ unfoldable pub CountsLaw : Type 0
 CountsLaw = (h : Half) → Obeys h → (budget limit : ℕ) → Counts h (decoded h budget limit)
 
 -- What a half shows counts what it did: the turns made lead the machine from its start to the stage that the half ended in, for none that of the
--- turn, or the start, that failed; the counts are those of that stage's marks, and marks and forms show it, unless it is none.
+-- turn, or the start, that failed; the counts are those of that stage's marks, and marks and forms show it, unless it is none. Every turn settles exactly one
+-- qubit: with the open ones, the turns made are the lost qubits that are not fixed.
 pub record Counted (h : Half) (s : Shown) : Type 0 where
   pub state : State
   pub steps : turned h (s .report .turns) (startOf h) ≡ ended (none? (s .report .word)) state
@@ -137,6 +138,7 @@ pub record Counted (h : Half) (s : Shown) : Type 0 where
   pub turns : s .report .turns ≡ marked (h .size) (state .mark) 2 + marked (h .size) (state .mark) 3
   pub guesses : s .report .guesses ≡ marked (h .size) (state .mark) 3
   pub live : s .report .live ≡ state .forms .live
+  pub left : s .report .turns + marked (h .size) (state .mark) 4 ≡ tally (h .size) (λ q. h .lost q && not (fixedOf h q))
   pub marks : none? (s .report .word) ≡ false → (q : ℕ) → s .mark q ≡ state .mark q
   pub forms : none? (s .report .word) ≡ false → (q k : ℕ) → s .form q k ≡ state .forms .form q k
 

@@ -1,6 +1,6 @@
 -- Rows that could not be read (document 02, request a): without them every case of document 01 comes out as before.
---   everyRow    document 01's checks: every row of the half, with its reading
---   before      how the half ends by document 01, which takes every row as read
+--   everyRow    the checks as document 01 has them: every row of the half, with its reading
+--   before      how the half ends over these, every row taken as read
 --   AllRead     the half has those checks, and ends so
 --   AllReadLaw  each half without an unread row is so
 use mathlib.Core.Path.{_≡_}

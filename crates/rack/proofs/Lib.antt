@@ -1,2 +1,4 @@
 pub mod Promising
 pub mod Runs
+pub mod Claimed
+pub mod Tied

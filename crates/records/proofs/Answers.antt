@@ -7,6 +7,7 @@ use Prim.Native.Nat.{ℕ}
 use native.Mathlib.Omega.{arith}
 use lib.ListN.{length}
 use borrow.Author.Tests.{not-true, not-false}
+use Rattle.binary.specs.Meaning.{Row}
 use Rattle.binary.proofs.Bits.{never}
 use Rattle.machine.specs.Lists.{HalfLists, Past, SameLengths}
 use Rattle.records.specs.declared.State.{State}
@@ -16,13 +17,13 @@ use Rattle.records.specs.declared.Report.{Report}
 use Rattle.records.specs.declared.Answer.{Answer}
 use Rattle.records.specs.declared.Answer.the-variants.{Refused, Taken, Complete, Decoded}
 use Rattle.records.specs.declared.Reply.{Reply}
-use Rattle.records.specs.Records.{Record, unknown, wrong, size, row, add, report, encodes}
-use Rattle.records.specs.History.{History}
-use Rattle.records.specs.Table.{refusal, isReport, afterwards}
+use Rattle.records.specs.Records.{Pauli, Record, unknown, wrong, size, row, add, report, encodes}
+use Rattle.records.specs.History.{History, empty, loading, ready}
+use Rattle.records.specs.Table.{refusal, takes, isReport, isReadout, afterwards}
 use Rattle.records.specs.Lists.{Lists, Six, Lent, lentOf, shortLists, shortSix, Represents}
 use Rattle.records.specs.States.{endedOf, leftBy, saying}
 use Rattle.records.specs.Window.{onReports, oneMore}
-use Rattle.records.specs.Promise.{answerOf, Left, Written, Unworked, refusalAt, Carried, KeptLengths, Says, WindowLeft, Promised}
+use Rattle.records.specs.Promise.{answerOf, rowsIn, qubitsIn, RowIn, ShotOf, Left, Written, Unworked, refusalAt, Carried, KeptLengths, Spares, SparesLaw, Says, WindowLeft, Promised}
 use Rattle.records.specs.Steps.{Answered, Does, Keeps}
 use Rattle.records.proofs.HeldStates.{holds-left}
 
@@ -112,6 +113,31 @@ says-same k st r e =
       reports = ap (λ (x : Reply). x .state .reports) e;
     }
 
+pub spared : (w : Record) (l : Lists) → Spares w l l
+spared w l = record { flat = λ e. refl; ends = λ e. refl; shot = λ e. refl }
+
+same-spared : (w : Record) (old new : Lists) → new ≡ old → Spares w old new
+same-spared w old new e = rw e (spared w old)
+
+row-spared : (p : Pauli) (r : Row) (n i : ℕ) (old new : Lists) → RowIn n r i old new → Spares (row p r) old new
+row-spared p r n i old new v = record { flat = λ e. never refl e; ends = λ e. never refl e; shot = λ e. v .shot }
+
+shot-spared : (w : Record) → isReadout w ≡ true → (a : History) (old new : Lists) → ShotOf a old new → Spares w old new
+shot-spared w t empty old new v = same-spared w old new v
+shot-spared w t (loading s xs zs) old new v = same-spared w old new v
+shot-spared w t (ready c s) old new v = record { flat = λ e. v .flat; ends = λ e. v .ends; shot = λ e. never t e }
+
+pub left-spared : SparesLaw
+unfolding SparesLaw
+left-spared (some n) w a old new v = same-spared w old new v
+left-spared none unknown a old new v = same-spared unknown old new v
+left-spared none wrong a old new v = same-spared wrong old new v
+left-spared none (size n x z) a old new v = same-spared (size n x z) old new v
+left-spared none (row p r) a old new v = row-spared p r (qubitsIn a) (rowsIn a) old new v
+left-spared none (add u k) a old new v = shot-spared (add u k) refl (takes (add u k) a) old new v
+left-spared none (report budget limit) a old new v = shot-spared (report budget limit) refl a old new v
+left-spared none (encodes k) a old new v = same-spared (encodes k) old new v
+
 pub unchanged : (l : Lent) → KeptLengths l l
 unchanged l = record { flat = refl; ends = refl; shot = refl; window = refl; work = refl; x = same-lengths (l .six .x); z = same-lengths (l .six .z) }
 
@@ -162,6 +188,9 @@ unfolding Does
 promised w st l l′ window work six r i k d =
     record {
       lengths = record { flat = k .flat; ends = k .ends; shot = k .shot; window = refl; work = refl; x = same-lengths (six .x); z = same-lengths (six .z) };
+      spares = k .spares;
+      work = λ e. refl;
+      six = λ e. refl;
       x-past = past-same (st .sizes .n) (six .x);
       z-past = past-same (st .sizes .n) (six .z);
       refused = λ n e. ap (λ (x : Lists). lentOf x window work six) (k .refused n e);

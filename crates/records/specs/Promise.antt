@@ -3,10 +3,11 @@
 --   Left        what an answer leaves in the lists of code and shot
 --   Written     what an answer leaves in the six lists; Unworked: in the work list
 --   refusalAt   the refusal that a record meets at a code and shot, with these lists lent; testsAt: the tests of the table
+--   Spares      the lists of code and shot that a record does not write; SparesLaw: what an answer leaves by the table is so
 --   Says        the state that a refusal leaves, and a kind 8 that agrees, and the number of reports after any answer
 --   Promised    what a record promises; Promise: the promise of `step`, of the record that the bytes are
 use mathlib.Core.Path.{_≡_}
-use mathlib.Core.Bool.{Bool}
+use mathlib.Core.Bool.{Bool, false}
 use mathlib.Core.Logic.{_⊎_}
 use mathlib.Core.Option.{Option, none, some}
 use mathlib.Core.List.{List}
@@ -25,7 +26,7 @@ use Rattle.records.specs.declared.Answer.the-variants.{Refused, Taken, C
 use Rattle.records.specs.declared.Reply.{Reply}
 use Rattle.records.specs.Records.{X, Z, Record, unknown, wrong, size, row, add, report, encodes, recordOf}
 use Rattle.records.specs.History.{Code, rowCount, sizesOf, Shot, History, empty, loading, ready, half}
-use Rattle.records.specs.Table.{tests, refusal, takes, isReport, afterwards}
+use Rattle.records.specs.Table.{tests, refusal, takes, isRow, isReport, isReadout, afterwards}
 use Rattle.records.specs.States.{leftBy}
 use Rattle.records.specs.Window.{onReports, oneMore, placeOf, Entered}
 use Rattle.records.specs.Lists.{Lists, Six, Lent, shortLists, shortSix, HeldShot, Represents}
@@ -162,6 +163,15 @@ pub record KeptLengths (old new : Lent) : Type 0 where
   pub x : SameLengths (old .six .x) (new .six .x)
   pub z : SameLengths (old .six .z) (new .six .z)
 
+-- None but a row writes the lists of the code, and none but kinds 2 to 7 the shot's.
+pub record Spares (w : Record) (old new : Lists) : Type 0 where
+  pub flat : isRow w ≡ false → new .flat ≡ old .flat
+  pub ends : isRow w ≡ false → new .ends ≡ old .ends
+  pub shot : isReadout w ≡ false → new .shot ≡ old .shot
+
+unfoldable pub SparesLaw : Type 0
+SparesLaw = (n : Option Refusal) (w : Record) (a : History) (old new : Lists) → Left n w a old new → Spares w old new
+
 -- The state after a refusal: where the table says that nothing changed, it is the state handed in. After a kind 8 that agrees it is that too. A decode that
 -- is reported counts as one report more, and an accepted kind 1 begins to count anew.
 pub record Says (w : Record) (st : State) (r : Reply) : Type 0 where
@@ -173,11 +183,15 @@ pub record Says (w : Record) (st : State) (r : Reply) : Type 0 where
 abbrev pub WindowLeft : Record → State → List ℕ → List ℕ → Answer → Type 0
 WindowLeft w st old new answer = onReports (λ t. t) (λ r t. Entered (placeOf (st .reports)) r old new) w answer (new ≡ old)
 
--- For every input the lists keep their lengths, the six lists what is past n, a refusal writes no lent list, and it and a kind 8 that agrees leave the
--- state that the table says, and the window is written as the answer says; and for whatever code and shot the state and the lists hold, the answer, every lent element and the code and shot afterwards are the
--- table's. Over altered lists or an altered state nothing else is promised.
+-- For every input, whatever state and lists hold: the lists keep their lengths; a row alone writes the lists of the code, kinds 2 to 7 the shot's, and a decode
+-- the work list and the six lists, of these what is not past n; a refusal writes no lent list; it and a kind 8 that agrees leave the state that the table says;
+-- and the window is written as the answer says. And for whatever code and shot the state and the lists hold, the answer, every lent element and the code and shot
+-- afterwards are the table's. Over altered lists or an altered state nothing else is promised.
 pub record Promised (w : Record) (st : State) (old new : Lent) (r : Reply) : Type 0 where
   pub lengths : KeptLengths old new
+  pub spares : Spares w (old .lists) (new .lists)
+  pub work : isReport w ≡ false → new .work ≡ old .work
+  pub six : isReport w ≡ false → new .six ≡ old .six
   pub x-past : Past (st .sizes .n) (old .six .x) (new .six .x)
   pub z-past : Past (st .sizes .n) (old .six .z) (new .six .z)
   pub refused : (n : Refusal) → r .answer ≡ Refused n → new ≡ old

@@ -5,6 +5,7 @@
 --   refusal        the lowest number that applies
 --   NumberedLaw    the same by the numbers: the refusal's test passes, and no refusal of a lower number has one that does
 --   AnyBudget      no refusal hangs on the budget
+--   isRow          a record that loads a row; isReadout: one of kinds 2 to 7, which are about a shot; isReport: a decode
 --   leaves         the table's column "After it"
 --   takes          what a record that is carried out makes of code and shot
 use mathlib.Core.Path.{_≡_}
@@ -107,7 +108,16 @@ pub record AnyBudget : Type 0 where
       → refusal short six (report budget limit) a ≡ refusal short six (report budget′ limit) a
 
 ----------------------------------------------------------------------
--- After it
+-- Which record it is
+
+abbrev pub isRow : Record → Bool
+isRow unknown = false
+isRow wrong = false
+isRow (size n x z) = false
+isRow (row p r) = true
+isRow (add u k) = false
+isRow (report budget limit) = false
+isRow (encodes k) = false
 
 abbrev pub isReport : Record → Bool
 isReport unknown = false
@@ -117,6 +127,18 @@ isReport (row p r) = false
 isReport (add u k) = false
 isReport (report budget limit) = true
 isReport (encodes k) = false
+
+abbrev pub isReadout : Record → Bool
+isReadout unknown = false
+isReadout wrong = false
+isReadout (size n x z) = false
+isReadout (row p r) = false
+isReadout (add u k) = true
+isReadout (report budget limit) = true
+isReadout (encodes k) = false
+
+----------------------------------------------------------------------
+-- After it
 
 abbrev pub leaves : Refusal → Record → History → History
 leaves Unknown r a = spoil a

@@ -19,7 +19,7 @@ use Rattle.records.specs.Lists.{Lists, Six, Lent, held, lentOf, shortLists, sho
 use Rattle.records.specs.States.{saying}
 use Rattle.records.specs.Steps.{Does}
 use Rattle.records.specs.Promise.{Promise, Promised}
-use Rattle.records.proofs.Answers.{answered-refused, says-refused, promised}
+use Rattle.records.proofs.Answers.{answered-refused, says-refused, spared, promised}
 use Rattle.records.proofs.Range.{long-lists}
 use Rattle.loading.specs.Loading.{SizesTaken, RowTaken}
 use Rattle.readout.specs.Readout.{Adds}
@@ -114,7 +114,7 @@ module _ (bytes : List ℕ) (s : Shape) (v : RecordAs bytes s) where
   unfolding Does
   spoils n w e i refuses short st l r k =
       record {
-        keeps = record { flat = refl; ends = refl; shot = refl; refused = λ m j. refl; says = rw e (says-refused w st r n (rw i k)) };
+        keeps = record { flat = refl; ends = refl; shot = refl; spares = spared (recordOf bytes) l; refused = λ m j. refl; says = rw e (says-refused w st r n (rw i k)) };
         does = λ window work six t. rw e (λ a h. answered-refused short six w a l n st r (refuses _ _ a) h (rw i k));
       }
 
@@ -139,7 +139,7 @@ module _ (bytes : List ℕ) (s : Shape) (v : RecordAs bytes s) where
     take-size e n x z i j k d =
         let w : recordOf bytes ≡ size n x z = at-size e ∙ λ t. size (sym i t) (sym j t) (sym k t) in
         record {
-          keeps = record { flat = refl; ends = refl; shot = refl; refused = λ m i. refl; says = rw w (d .says) };
+          keeps = record { flat = refl; ends = refl; shot = refl; spares = spared (recordOf bytes) l; refused = λ m i. refl; says = rw w (d .says) };
           does = λ window work six t. rw w (d .does l six);
         }
 
@@ -152,6 +152,7 @@ module _ (bytes : List ℕ) (s : Shape) (v : RecordAs bytes s) where
             flat = d .flat-long;
             ends = d .ends-long;
             shot = refl;
+            spares = rw (z .0) (record { flat = λ i. never refl i; ends = λ i. never refl i; shot = λ i. refl });
             refused = λ m i. let o = d .refused m i in ap₂ (λ (f g : List ℕ). held f g shot) (o .0) (o .1);
             says = rw (z .0) (d .says);
           };
@@ -166,6 +167,7 @@ module _ (bytes : List ℕ) (s : Shape) (v : RecordAs bytes s) where
             flat = refl;
             ends = refl;
             shot = d .long;
+            spares = rw e (record { flat = λ i. refl; ends = λ i. refl; shot = λ i. never refl i });
             refused = λ m i. ap (λ (x : List ℕ). held flat ends x) (d .refused m i);
             says = rw e (d .says);
           };
@@ -180,7 +182,7 @@ module _ (bytes : List ℕ) (s : Shape) (v : RecordAs bytes s) where
     take-logical e k i d =
         let w : recordOf bytes ≡ encodes k = at-logical e ∙ ap encodes (sym i) in
         record {
-          keeps = record { flat = refl; ends = refl; shot = refl; refused = λ m i. refl; says = rw w (d .says) };
+          keeps = record { flat = refl; ends = refl; shot = refl; spares = spared (recordOf bytes) l; refused = λ m i. refl; says = rw w (d .says) };
           does = λ window work six t. rw w (d .does six shot);
         }
 

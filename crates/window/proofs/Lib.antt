@@ -1,3 +1,4 @@
 pub mod Lengths
 pub mod Entering
 pub mod Counts
+pub mod Tied

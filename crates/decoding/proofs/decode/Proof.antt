@@ -1,5 +1,5 @@
 -- `decoding::decode` meets its contract: it is refused, or both halves are decoded. Assumes nothing.
-use Rattle.decoding.proofs.Decoding.{passed, decode-refused, halves-fit, decode-done}
+use Rattle.decoding.proofs.Decoding.{passed, decode-refused, shot-long, decode-done}
 use borrow.Author.Needs.{needs}
 use Rattle.decoding.proofs.decode.Statement.{statement}
 use Rattle.decoding.proofs.decode.Tie as tie
@@ -50,7 +50,7 @@ begin-requires : tie.Need-begin-requires
 begin-requires c κs = search needs
 
 decode-halves-requires : tie.Need-decode-halves-requires
-decode-halves-requires c κs = halves-fit _ _ _ _ _ _ _ _ _ _ (passed _ _ _ _ (c .before .before .before .before .before .before .before .before .before .before .before .before .before .before .before .lacking .ensures) (c .before .before .before .before .before .before .before .before .before .before .before .before .before .before .tested .ensures) (c .before .before .before .before .before .before .before .before .before .before .before .before .enum-told .given .1)) (c .before .before .before .before .before .before .before .before .before .before .begin .ensures)
+decode-halves-requires c κs = shot-long _ _ _ _ _ _ _ _ (passed _ _ _ _ (c .before .before .before .before .before .before .before .before .before .before .before .before .before .before .before .lacking .ensures) (c .before .before .before .before .before .before .before .before .before .before .before .before .before .before .tested .ensures) (c .before .before .before .before .before .before .before .before .before .before .before .before .enum-told .given .1)) (c .before .before .before .before .before .before .before .before .before .before .begin .ensures)
 
 report-of-requires : tie.Need-report-of-requires
 report-of-requires c κs = search needs
