@@ -22,15 +22,15 @@ use Rattle.machine.specs.Words.{finished?}
 use Rattle.machine.specs.Machine.{Form}
 use Rattle.machine.specs.Fillings.{dot}
 use Rattle.machine.specs.Lists.{formOf, digit}
-use Rattle.machine.specs.Candidates.{candidate}
+use Rattle.candidates_meaning.specs.Candidates.{candidate}
 use Rattle.machine.proofs.Values.{dot-same}
 use Rattle.machine.proofs.FormWords.{form-first, rest-digit}
 use Rattle.scans.specs.Scans.{countMarks}
-use Rattle.records.specs.declared.CandidateAnswer.{CandidateAnswer}
-use Rattle.records.specs.declared.CandidateAnswer.the-variants.{Refused, Given}
-use Rattle.records.specs.declared.CandidateRefusal.{CandidateRefusal}
+use Rattle.candidates_meaning.specs.declared.CandidateAnswer.{CandidateAnswer}
+use Rattle.candidates_meaning.specs.declared.CandidateAnswer.the-variants.{Refused, Given}
+use Rattle.candidates_meaning.specs.declared.CandidateRefusal.{CandidateRefusal}
 use Rattle.records.specs.Lowest.{lowest}
-use Rattle.records.specs.Candidates.{Asked, short?, unfinished?, many?, candidateTests, candidateRefusal, candidateAnswer, CandidateIn, Gives}
+use Rattle.candidates_meaning.specs.Asking.{Asked, short?, unfinished?, many?, candidateTests, candidateRefusal, candidateAnswer, CandidateIn, Gives}
 
 ----------------------------------------------------------------------
 -- The parity of bits

@@ -7,7 +7,7 @@ use borrow.Fn.Kinds.{endedOf}
 use Rattle.candidates.proofs.give.{signature}
 use Rattle.candidates.proofs.give.Kinds as kinds
 use Rattle.candidates.proofs.give.Reads as reads
-use Rattle.records.specs.Candidates.{Gives}
+use Rattle.candidates_meaning.specs.Asking.{Gives}
 
 pub tied : (κs : Lfts 3) (a : ArgsD signature κs) (r : ResD signature κs) (s : AtExit (endedOf 3 kinds.ps kinds.r) κs)
     → reads.Post κs a r s

@@ -10,10 +10,10 @@ ghost use Rattle.lists.specs.Filled.{Filled};
 ghost use Rattle.machine.specs.Words.{finished?};
 ghost use Rattle.scans.specs.Scans.{countMarks};
 ghost use Rattle.records.specs.Lowest.{lowest};
-ghost use Rattle.records.specs.Candidates.{candidateTests, candidateAnswer, Gives};
+ghost use Rattle.candidates_meaning.specs.Asking.{candidateTests, candidateAnswer, Gives};
 use machine::Word;
-use records::CandidateAnswer;
-use records::CandidateRefusal;
+use candidates_meaning::CandidateAnswer;
+use candidates_meaning::CandidateRefusal;
 
 // Whether the list to be written, the marks or the forms are too short for n qubits.
 fn is_short(n: u16, marks: &[u8], forms: &[u64], long: usize) -> bool

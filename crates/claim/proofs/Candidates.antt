@@ -11,10 +11,10 @@ use Rattle.machine.specs.declared.HalfReport.{HalfReport}
 use Rattle.machine.specs.Words.{finished?}
 use Rattle.machine.specs.Machine.{Half, isOpen}
 use Rattle.machine.specs.Lists.{HalfLists, seen}
-use Rattle.machine.specs.Candidates.{Candidates}
-use Rattle.records.specs.declared.CandidateRefusal.{CandidateRefusal}
-use Rattle.records.specs.declared.CandidateRefusal.the-variants.{Many}
-use Rattle.records.specs.Candidates.{short?, unfinished?, candidateRefusal, candidateAnswer, CandidateIn}
+use Rattle.candidates_meaning.specs.Candidates.{Candidates}
+use Rattle.candidates_meaning.specs.declared.CandidateRefusal.{CandidateRefusal}
+use Rattle.candidates_meaning.specs.declared.CandidateRefusal.the-variants.{Many}
+use Rattle.candidates_meaning.specs.Asking.{short?, unfinished?, candidateRefusal, candidateAnswer, CandidateIn}
 use Rattle.records.proofs.Range.{LongHalf}
 use Rattle.claim.specs.Candidates.{asked, ClassesShown}
 

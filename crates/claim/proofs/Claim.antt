@@ -19,9 +19,10 @@ use Rattle.machine.specs.Lists.{HalfLists, Shows, SameLengths, seen}
 use Rattle.machine.specs.Unread.{before, AllReadLaw}
 use Rattle.machine.specs.Demands.{Obeys, VerdictLaw, CountedLaw, EmptiedLaw, FillingsLaw, ClassesLaw, BudgetsLaw, ReachLaw}
 use Rattle.machine.specs.OneWord.{OneWord, OneWordLaw}
-use Rattle.machine.specs.Candidates.{Candidates, CandidatesLaw}
+use Rattle.candidates_meaning.specs.Candidates.{Candidates, CandidatesLaw}
 use Rattle.machine.proofs.FormWords.{one-word}
-use Rattle.machine.proofs.Candidates.{over-shut-all, candidates}
+use Rattle.machine.proofs.Finished.{over-shut-all}
+use Rattle.candidates_meaning.proofs.Candidates.{candidates}
 use Rattle.machine.proofs.Demands.{verdict, counted, emptied, fillings, classes, budgets, reach}
 use Rattle.machine.proofs.Unread.{all-read}
 use Rattle.machine.proofs.Seen.{seen-is}

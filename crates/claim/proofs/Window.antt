@@ -15,9 +15,10 @@ use Rattle.machine.specs.declared.HalfReport.{HalfReport}
 use Rattle.records.specs.declared.Report.{Report}
 use Rattle.records.specs.declared.Answer.{Answer}
 use Rattle.records.specs.declared.Answer.the-variants.{Refused, Taken, Complete, Decoded}
-use Rattle.records.specs.declared.WindowAnswer.{WindowAnswer}
+use Rattle.window_meaning.specs.declared.WindowAnswer.{WindowAnswer}
 use Rattle.records.specs.Records.{Pauli, X, Z, Record, unknown, wrong, size, row, add, report, encodes}
-use Rattle.records.specs.Window.{onReports, oneMore, placeOf, keptOf, Entry, entryOf, entryAt, offset, Entered, counted, sumBelow, countsAt, windowAnswer}
+use Rattle.records.specs.Window.{onReports, oneMore, placeOf, keptOf, Entry, entryOf, entryAt, offset, Entered}
+use Rattle.window_meaning.specs.Read.{counted, sumBelow, countsAt, windowAnswer}
 use Rattle.records.proofs.Window.{kept-few, kept-many}
 use Rattle.claim.specs.Window.{last, reportFor, sumOver, countOver, ReadOf, KeptIn}
 

@@ -12,13 +12,13 @@ use Prim.Native.Nat.{ℕ}
 use Rattle.records.specs.declared.Phase.the-variants.{Empty}
 use Rattle.records.specs.declared.State.{State}
 use Rattle.records.specs.declared.Reply.{Reply}
-use Rattle.records.specs.declared.WindowAnswer.{WindowAnswer}
+use Rattle.window_meaning.specs.declared.WindowAnswer.{WindowAnswer}
 use Rattle.records.specs.Records.{recordOf}
 use Rattle.records.specs.History.{History, empty}
 use Rattle.records.specs.Table.{afterwards}
 use Rattle.records.specs.Lists.{Lists, held, Six, Lent}
 use Rattle.records.specs.Promise.{refusalAt, Promise}
-use Rattle.records.specs.Window.{windowAnswer}
+use Rattle.window_meaning.specs.Read.{windowAnswer}
 
 ----------------------------------------------------------------------
 -- Calls

@@ -9,11 +9,11 @@ use lib.ListN.{length, getD}
 use Rattle.machine.specs.declared.HalfReport.{HalfReport}
 use Rattle.machine.specs.Machine.{Half}
 use Rattle.machine.specs.Lists.{HalfLists, digit, seen}
-use Rattle.machine.specs.Candidates.{candidateOf, Candidates}
-use Rattle.records.specs.declared.CandidateAnswer.{CandidateAnswer}
-use Rattle.records.specs.declared.CandidateAnswer.the-variants.{Refused, Given}
-use Rattle.records.specs.declared.CandidateRefusal.the-variants.{Many}
-use Rattle.records.specs.Candidates.{Asked, Gives}
+use Rattle.candidates_meaning.specs.Candidates.{candidateOf, Candidates}
+use Rattle.candidates_meaning.specs.declared.CandidateAnswer.{CandidateAnswer}
+use Rattle.candidates_meaning.specs.declared.CandidateAnswer.the-variants.{Refused, Given}
+use Rattle.candidates_meaning.specs.declared.CandidateRefusal.the-variants.{Many}
+use Rattle.candidates_meaning.specs.Asking.{Asked, Gives}
 
 abbrev pub asked : ℕ → HalfReport → HalfLists → ℕ → Asked
 asked n r l c = record { n = n; word = r .word; live = r .live; marks = l .marks; forms = l .forms; number = c }

@@ -17,7 +17,7 @@ use Rattle.machine.specs.Unread.{before}
 use Rattle.machine.specs.OneWord.{OneWord}
 use Rattle.machine.specs.Demands.{Verdict, Counted, Emptied, Fillings, Classes, Reach}
 use Rattle.records.specs.declared.Report.{Report}
-use Rattle.records.specs.declared.WindowAnswer.{WindowAnswer}
+use Rattle.window_meaning.specs.declared.WindowAnswer.{WindowAnswer}
 use Rattle.records.specs.declared.Answer.the-variants.{Taken, Decoded}
 use Rattle.records.specs.Records.{Pauli, X, Z, report, encodes, recordOf}
 use Rattle.records.specs.History.{Code, Shot, History, ready, half}

@@ -13,13 +13,14 @@ use lib.Dec.{ltb}
 use lib.ListN.{length, getD, drop}
 use Rattle.machine.specs.declared.HalfReport.{HalfReport}
 use Rattle.records.specs.declared.Report.{Report}
-use Rattle.records.specs.declared.HalfCounts.{HalfCounts}
-use Rattle.records.specs.declared.Counts.{Counts}
-use Rattle.records.specs.declared.WindowRefusal.the-variants.{Short}
-use Rattle.records.specs.declared.WindowAnswer.{WindowAnswer}
-use Rattle.records.specs.declared.WindowAnswer.the-variants.{Refused, Counted}
+use Rattle.window_meaning.specs.declared.HalfCounts.{HalfCounts}
+use Rattle.window_meaning.specs.declared.Counts.{Counts}
+use Rattle.window_meaning.specs.declared.WindowRefusal.the-variants.{Short}
+use Rattle.window_meaning.specs.declared.WindowAnswer.{WindowAnswer}
+use Rattle.window_meaning.specs.declared.WindowAnswer.the-variants.{Refused, Counted}
 use Rattle.records.specs.Records.{Pauli, X, Z, recordOf}
-use Rattle.records.specs.Window.{onReports, placeOf, keptOf, entryOf, entryAt, counted}
+use Rattle.records.specs.Window.{onReports, placeOf, keptOf, entryOf, entryAt}
+use Rattle.window_meaning.specs.Read.{counted}
 use Rattle.claim.specs.Calls.{Call, step, look}
 
 ----------------------------------------------------------------------

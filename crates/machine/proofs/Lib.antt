@@ -14,4 +14,4 @@ pub mod Unread
 pub mod Peeling
 pub mod Trying
 pub mod FormWords
-pub mod Candidates
+pub mod Finished

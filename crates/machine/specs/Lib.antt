@@ -8,4 +8,3 @@ pub mod Demands
 pub mod Unread
 pub mod Peeling
 pub mod OneWord
-pub mod Candidates

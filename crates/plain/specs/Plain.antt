@@ -3,7 +3,6 @@
 --   plainState  the numbers of a state
 --   plainReply  the numbers of a reply: the answer, the table's number of a refusal, word and counts of the halves of a report
 --   wordOf      the word that a number stands for
---   plainCandidate  the number of the answer to a call for a candidate
 use mathlib.Core.Path.{_≡_}
 use mathlib.Core.Bool.{Bool, not, cond}
 use Prim.Native.Nat.{ℕ}
@@ -17,10 +16,7 @@ use Rattle.records.specs.declared.State.{State}
 use Rattle.records.specs.declared.Answer.{Answer}
 use Rattle.records.specs.declared.Answer.the-variants.{Refused, Taken, Complete, Decoded}
 use Rattle.records.specs.declared.Reply.{Reply}
-use Rattle.records.specs.declared.CandidateAnswer.{CandidateAnswer}
-use Rattle.records.specs.declared.CandidateAnswer.the-variants.{Given}
 use Rattle.records.specs.Table.{refusalNumber}
-use Rattle.records.specs.Candidates.{candidateNumber}
 use Rattle.records.specs.Window.{wordNumber}
 use Rattle.plain.specs.declared.RackState.{RackState}
 use Rattle.plain.specs.declared.RackHalf.{RackHalf}
@@ -99,11 +95,3 @@ plainAnswer (Refused why) s = unreported 3 (refusalNumber why) s
 
 abbrev pub plainReply : Reply → RackReply
 plainReply r = plainAnswer (r .answer) (plainState (r .state))
-
-----------------------------------------------------------------------
--- Candidates
-
--- 0 where the candidate was given, else the number of the refusal.
-abbrev pub plainCandidate : CandidateAnswer → ℕ
-plainCandidate Given = 0
-plainCandidate (CandidateAnswer.Refused why) = candidateNumber why

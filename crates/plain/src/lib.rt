@@ -1,14 +1,9 @@
 // States and replies as plain numbers, for a rack's own program in C or Rust.
-pub mod counts;
-
 ghost use mathlib.Core.Path.{_≡_};
-ghost use Rattle.records.specs.Candidates.{candidateNumber};
-ghost use Rattle.plain.specs.Plain.{phaseOf, phaseNumber, stateOf, plainState, wordOf, plainHalf, noHalf, unreported, plainAnswer, plainReply, plainCandidate};
+ghost use Rattle.plain.specs.Plain.{phaseOf, phaseNumber, stateOf, plainState, wordOf, plainHalf, noHalf, unreported, plainAnswer, plainReply};
 use machine::HalfReport;
 use machine::Word;
 use records::Answer;
-use records::CandidateAnswer;
-use records::CandidateRefusal;
 use records::Phase;
 use records::Reply;
 use records::Report;
@@ -204,25 +199,4 @@ pub fn reply(r: Reply) -> RackReply
     let after = r.state;
     let answer = r.answer;
     answered(state(after), answer)
-}
-
-// The number of a refusal of a candidate.
-fn candidate_refusal(why: CandidateRefusal) -> u16
-    ensures { λ r. ⌜ r ≡ candidateNumber why ⌝ }
-{
-    match why {
-        CandidateRefusal::Short => 12,
-        CandidateRefusal::Unfinished => 15,
-        CandidateRefusal::Many => 16,
-    }
-}
-
-// 0 where the candidate was given, else the number of the refusal.
-pub fn candidate(answer: CandidateAnswer) -> u16
-    ensures { λ r. ⌜ r ≡ plainCandidate answer ⌝ }
-{
-    match answer {
-        CandidateAnswer::Given => 0,
-        CandidateAnswer::Refused(why) => candidate_refusal(why),
-    }
 }

@@ -4,12 +4,12 @@ use mathlib.Core.List.{List, [], _∷_, _++_, map}
 use Prim.Native.Nat.{ℕ}
 use native.Mathlib.Omega.{arith}
 use Rattle.records.specs.declared.Answer.{Answer}
-use Rattle.records.specs.declared.WindowAnswer.{WindowAnswer}
+use Rattle.window_meaning.specs.declared.WindowAnswer.{WindowAnswer}
 use Rattle.records.specs.States.{freshState}
 use Rattle.claim.specs.Calls.{Passed, Call, step, look, Run, Place}
 use Rattle.claim.proofs.Claim.{claim}
 use Rattle.plain.specs.Plain.{stateOf, plainState, plainAnswer}
-use Rattle.plain.specs.Counts.{plainWindow}
+use Rattle.rack.specs.Counts.{plainWindow}
 use Rattle.rack.specs.Runs.{RackCall, rack-step, rack-look, plainCall, StreamRun, RackPlace, Tells, Claimed, RackClaim}
 use Rattle.rack.proofs.Runs.{rack-run}
 

@@ -5,15 +5,16 @@ use Prim.Native.Nat.{ℕ}
 use Rattle.machine.specs.declared.Word.{Word}
 use Rattle.records.specs.declared.State.{State}
 use Rattle.records.specs.declared.Reply.{Reply}
-use Rattle.records.specs.declared.CandidateAnswer.{CandidateAnswer}
+use Rattle.candidates_meaning.specs.declared.CandidateAnswer.{CandidateAnswer}
 use Rattle.records.specs.Lists.{Lent}
 use Rattle.records.specs.Promise.{Promise}
-use Rattle.records.specs.Candidates.{Gives}
+use Rattle.candidates_meaning.specs.Asking.{Gives}
 use Rattle.plain.specs.declared.RackState.{RackState}
 use Rattle.plain.specs.declared.RackReply.{RackReply}
-use Rattle.plain.specs.Plain.{stateOf, plainReply, wordOf, plainCandidate, WordLaw}
+use Rattle.plain.specs.Plain.{stateOf, plainReply, wordOf, WordLaw}
 use Rattle.plain.proofs.Numbers.{word-back}
-use Rattle.rack.specs.Promise.{RackPromise, RackGives, RackGivesLaw}
+use Rattle.rack.specs.Promise.{RackPromise}
+use Rattle.rack.specs.Candidates.{plainCandidate, RackGives, RackGivesLaw}
 
 pub rack-promise : (s : RackState) (st : State) (bytes : List ℕ) (old new : Lent) (d : Reply) (r : RackReply) → st ≡ stateOf s
     → Promise st bytes old new d → r ≡ plainReply d → RackPromise s bytes old new r

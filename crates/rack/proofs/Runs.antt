@@ -5,12 +5,12 @@ use Prim.Native.Nat.{ℕ}
 use Rattle.records.specs.declared.Answer.{Answer}
 use Rattle.records.specs.declared.Answer.the-variants.{Refused, Taken, Complete, Decoded}
 use Rattle.records.specs.Lists.{Lent}
-use Rattle.records.specs.Window.{windowAnswer}
+use Rattle.window_meaning.specs.Read.{windowAnswer}
 use Rattle.claim.specs.Calls.{Passed, Step, step, look}
 use Rattle.claim.specs.Calls as calls
 use Rattle.plain.specs.declared.RackState.{RackState}
 use Rattle.plain.specs.declared.RackReply.{RackReply}
-use Rattle.plain.specs.declared.counts.RackCounts.{RackCounts}
+use Rattle.rack.specs.declared.counts.RackCounts.{RackCounts}
 use Rattle.plain.specs.Plain.{stateOf, plainAnswer}
 use Rattle.rack.specs.Promise.{RackPromise}
 use Rattle.rack.specs.Runs.{RackCall, rack-step, rack-look, plainCall, RackKeeps, rackStateLeft, rackListsLeft, RackRun, ended, call, StreamRun}

@@ -22,7 +22,7 @@ use Rattle.records.specs.Lists.{Lists, held, sixOf, lentOf}
 use Rattle.records.specs.States.{freshState}
 use Rattle.claim.specs.Calls.{passed, Passed}
 use Rattle.plain.specs.Plain.{plainState}
-use Rattle.rack.specs.Promise.{RackGives}
+use Rattle.rack.specs.Candidates.{RackGives}
 use Rattle.rack.specs.Runs.{rack-step, rack-look, RackKeeps}
 
 pub fresh-tied : (κs : Lfts 0) (a : ArgsD fresh.signature κs) (r : ResD fresh.signature κs) (s : AtExit (endedOf 0 fresh-kinds.ps fresh-kinds.r) κs)

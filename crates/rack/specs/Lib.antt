@@ -1,2 +1,4 @@
 pub mod Promise
+pub mod Candidates
+pub mod Counts
 pub mod Runs

@@ -12,8 +12,8 @@ use mathlib.Core.List.{List, [], _∷_, _++_, map}
 use Prim.Native.Nat.{ℕ}
 use lib.Dec.{ltb}
 use lib.ListN.{length}
-use Rattle.records.specs.declared.WindowRefusal.the-variants.{Short}
-use Rattle.records.specs.declared.WindowAnswer.the-variants.{Refused, Counted}
+use Rattle.window_meaning.specs.declared.WindowRefusal.the-variants.{Short}
+use Rattle.window_meaning.specs.declared.WindowAnswer.the-variants.{Refused, Counted}
 use Rattle.records.specs.Records.{recordOf}
 use Rattle.records.specs.Lists.{Six, Lent, lentOf}
 use Rattle.records.specs.States.{freshState}
@@ -22,10 +22,11 @@ use Rattle.claim.specs.Calls.{Passed, passedOf, lent, Call, step, look, Run, Pl
 use Rattle.claim.specs.Window.{reportsOf, last, freshCount}
 use Rattle.plain.specs.declared.RackState.{RackState}
 use Rattle.plain.specs.declared.RackReply.{RackReply}
-use Rattle.plain.specs.declared.counts.RackCounts.{RackCounts}
+use Rattle.rack.specs.declared.counts.RackCounts.{RackCounts}
 use Rattle.plain.specs.Plain.{stateOf, plainState, plainAnswer, plainReply}
-use Rattle.plain.specs.Counts.{plainWindow}
-use Rattle.rack.specs.Promise.{RackPromise, rackWindow}
+use Rattle.rack.specs.Counts.{plainWindow}
+use Rattle.rack.specs.Promise.{RackPromise}
+use Rattle.rack.specs.Counts.{rackWindow}
 
 -- A call of `rack_step`.
 pub record RackStep : Type 0 where

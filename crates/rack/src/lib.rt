@@ -1,19 +1,27 @@
 // The calls for a rack's own program in C or Rust (include/rack.h): states, words and answers as plain numbers.
+mod candidate;
+pub mod counts;
+
 ghost use mathlib.Core.Path.{_≡_};
 ghost use Rattle.records.specs.Lists.{held, sixOf, lentOf};
 ghost use Rattle.records.specs.States.{freshState};
 ghost use Rattle.plain.specs.Plain.{plainState};
-ghost use Rattle.rack.specs.Promise.{version, RackPromise, RackGives, rackWindow};
+ghost use Rattle.rack.specs.Promise.{version, RackPromise};
+ghost use Rattle.rack.specs.Candidates.{RackGives};
+ghost use Rattle.rack.specs.Counts.{rackWindow};
 use plain::RackReply;
 use plain::RackState;
-use plain::counts::RackCounts;
+use counts::RackCounts;
+
+// One more whenever a call, a list or a struct changes.
+const VERSION: u16 = 8;
 
 // The library's version; the header's RACK_VERSION has to be the same.
 #[no_mangle]
 pub extern "C" fn rack_version() -> u16
     ensures { λ r. ⌜ r ≡ version ⌝ }
 {
-    records::VERSION
+    VERSION
 }
 
 // At a fresh start there is no code and no shot.
@@ -75,7 +83,7 @@ pub extern "C" fn rack_candidate(
     ensures { λ r. ⌜ RackGives n word live (now (marks .entry)) (now (forms .entry)) number (now (candidate .entry)) (now (candidate .exit)) r ⌝ }
 {
     let said = plain::word_of(word);
-    plain::candidate(candidates::give(n, said, live, marks, forms, number, candidate))
+    candidate::number(candidates::give(n, said, live, marks, forms, number, candidate))
 }
 
 // The last 256 reports counted: `window::read` at the state that the numbers stand for.
@@ -84,5 +92,5 @@ pub extern "C" fn rack_window(state: RackState, window: &[u16]) -> RackCounts
     ensures { λ r. ⌜ r ≡ rackWindow state (now (window .entry)) ⌝ }
 {
     let read = window::read(plain::state_of(state), window);
-    plain::counts::window(read)
+    counts::window(read)
 }

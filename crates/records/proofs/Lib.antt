@@ -4,5 +4,4 @@ pub mod Range
 pub mod Lowest
 pub mod Numbers
 pub mod KindBytes
-pub mod Candidates
 pub mod Window

@@ -7,4 +7,3 @@ pub mod States
 pub mod Window
 pub mod Promise
 pub mod Steps
-pub mod Candidates

@@ -1,32 +1,23 @@
--- The last 256 reports (document 02, request h): how they are kept, and what a read of them promises.
---   onReports     what an answer does to what is known of the reports: a decode that is reported enters, an accepted kind 1 empties, all else leaves it
---   oneMore       the number of reports that have come, with one more; placeOf: the place of the next; keptOf: how many are kept
---   wordNumber    the number of a word
---   Entry         what is kept of a half: the number of its word, and its counts
---   entryAt       the entry of a half in the window's list
---   Entered       a report entered into the list
---   counted       of any entries: how many had each word, and the sums of turns, guesses and live
---   windowNumber  the number of a refusal of a read
---   windowAnswer  the answer to a read, for every input
+-- The last 256 reports (document 02, request h): how they are kept.
+--   onReports  what an answer does to what is known of the reports: a decode that is reported enters, an accepted kind 1 empties, all else leaves it
+--   oneMore    the number of reports that have come, with one more; placeOf: the place of the next; keptOf: how many are kept
+--   wordNumber the number of a word
+--   Entry      what is kept of a half: the number of its word, and its counts
+--   entryAt    the entry of a half in the window's list
+--   Entered    a report entered into the list
 use mathlib.Core.Path.{_≡_}
 use mathlib.Core.Bool.{cond}
 use mathlib.Core.Logic.{_⊎_}
 use mathlib.Core.List.{List}
-use Prim.Native.Nat.{ℕ, zero, suc, _+_, _*_, _%_, _≤_, _<_}
-use lib.Dec.{eqb, ltb}
+use Prim.Native.Nat.{ℕ, suc, _+_, _*_, _%_, _≤_, _<_}
+use lib.Dec.{ltb}
 use lib.ListN.{length, getD}
 use Rattle.machine.specs.declared.Word.{Word}
 use Rattle.machine.specs.declared.Word.the-variants.{Certain, Unsure, None, Spent, Stopped}
 use Rattle.machine.specs.declared.HalfReport.{HalfReport}
-use Rattle.machine.specs.Lists.{digit}
 use Rattle.records.specs.declared.Report.{Report}
 use Rattle.records.specs.declared.Answer.{Answer}
 use Rattle.records.specs.declared.Answer.the-variants.{Refused, Taken, Complete, Decoded}
-use Rattle.records.specs.declared.HalfCounts.{HalfCounts}
-use Rattle.records.specs.declared.WindowRefusal.{WindowRefusal}
-use Rattle.records.specs.declared.WindowRefusal.the-variants.{Short}
-use Rattle.records.specs.declared.WindowAnswer.{WindowAnswer}
-use Rattle.records.specs.declared.WindowAnswer.the-variants.{Counted}
 use Rattle.records.specs.Records.{Pauli, X, Z, Record, unknown, wrong, size, row, add, report, encodes}
 
 ----------------------------------------------------------------------
@@ -104,38 +95,3 @@ pub record Entered (p : ℕ) (r : Report) (old new : List ℕ) : Type 0 where
   pub x : entryAt X p new ≡ entryOf (r .x)
   pub z : entryAt Z p new ≡ entryOf (r .z)
   pub rest : (k : ℕ) → (k < 10 * p) ⊎ (10 * p + 10 ≤ k) → getD new k 0 ≡ getD old k 0
-
-----------------------------------------------------------------------
--- A read
-
-abbrev pub had : Word → Entry → ℕ
-had w e = digit (eqb (e .word) (wordNumber w))
-
--- sum f: f summed over the entries.
-abbrev pub counted : ((Entry → ℕ) → ℕ) → HalfCounts
-counted sum = record {
-  certain = sum (had Certain);
-  unsure = sum (had Unsure);
-  none = sum (had None);
-  spent = sum (had Spent);
-  stopped = sum (had Stopped);
-  turns = sum (λ e. e .turns);
-  guesses = sum (λ e. e .guesses);
-  live = sum (λ e. e .live);
-}
-
-unfoldable pub sumBelow : (ℕ → ℕ) → ℕ → ℕ
-sumBelow f zero = 0
-sumBelow f (suc k) = sumBelow f k + f k
-
--- Over the first k places of the list.
-unfoldable pub countsAt : Pauli → ℕ → List ℕ → HalfCounts
-countsAt b k l = counted (λ f. sumBelow (λ p. f (entryAt b p l)) k)
-
-abbrev pub windowNumber : WindowRefusal → ℕ
-windowNumber Short = 12
-
--- m: the number of reports in the state.
-unfoldable pub windowAnswer : ℕ → List ℕ → WindowAnswer
-windowAnswer m l =
-    cond (ltb (length l) 2560) (WindowAnswer.Refused Short) (Counted (record { x = countsAt X (keptOf m) l; z = countsAt Z (keptOf m) l }))

@@ -1,7 +1,7 @@
 // Records, as document 01 means them (specs/): what a call hands over and hands back.
 use machine::HalfReport;
 
-// The version of records, lists and structs, one more whenever one of them changes: a header and an archive tell theirs.
+// The version of the records, one more whenever what bytes mean changes.
 pub const VERSION: u16 = 8;
 
 // Why a record is refused (document 01, the table).
@@ -65,46 +65,4 @@ pub struct State {
 pub struct Reply {
     pub state: State,
     pub answer: Answer,
-}
-
-// Why a candidate is not given (document 02, request f).
-pub enum CandidateRefusal {
-    Short,
-    Unfinished,
-    Many,
-}
-
-// The answer to a call for a candidate: a refusal, or that it was written.
-pub enum CandidateAnswer {
-    Refused(CandidateRefusal),
-    Given,
-}
-
-// Of the halves of a kind among the last 256 reports (document 02, request h): how many had each word, and the sums of turns, guesses and live.
-pub struct HalfCounts {
-    pub certain: u32,
-    pub unsure: u32,
-    pub none: u32,
-    pub spent: u32,
-    pub stopped: u32,
-    pub turns: u32,
-    pub guesses: u32,
-    pub live: u32,
-}
-
-// Of both kinds.
-pub struct Counts {
-    pub x: HalfCounts,
-    pub z: HalfCounts,
-}
-
-// Why the window is not read.
-pub enum WindowRefusal {
-    Short,
-}
-
-// The answer to a read of the window: a refusal, or the counts.
-pub enum WindowAnswer {
-    Refused(WindowRefusal),
-    Counted(Counts),
 }

@@ -11,11 +11,12 @@ use borrow.Author.Tests.{lt-ltb, le-ltb, ltb-true}
 use lib.Dec.{eqb, ltb}
 use lib.ListN.{length, getD}
 use Rattle.machine.specs.Lists.{digit}
-use Rattle.records.specs.declared.HalfCounts.{HalfCounts}
-use Rattle.records.specs.declared.WindowRefusal.the-variants.{Short}
-use Rattle.records.specs.declared.WindowAnswer.{WindowAnswer}
-use Rattle.records.specs.declared.WindowAnswer.the-variants.{Counted}
-use Rattle.records.specs.Window.{keptOf, sumBelow, countsAt, windowAnswer}
+use Rattle.window_meaning.specs.declared.HalfCounts.{HalfCounts}
+use Rattle.window_meaning.specs.declared.WindowRefusal.the-variants.{Short}
+use Rattle.window_meaning.specs.declared.WindowAnswer.{WindowAnswer}
+use Rattle.window_meaning.specs.declared.WindowAnswer.the-variants.{Counted}
+use Rattle.records.specs.Window.{keptOf}
+use Rattle.window_meaning.specs.Read.{sumBelow, countsAt, windowAnswer}
 use Rattle.window.specs.Counts.{noneYet, plus, Few, countsFrom}
 
 pub digit-small : (b : Bool) → digit b ≤ 1

@@ -8,7 +8,7 @@ use borrow.Fn.Kinds.{endedOf}
 use Rattle.window.proofs.read.{signature}
 use Rattle.window.proofs.read.Kinds as kinds
 use Rattle.window.proofs.read.Reads as reads
-use Rattle.records.specs.Window.{windowAnswer}
+use Rattle.window_meaning.specs.Read.{windowAnswer}
 
 pub tied : (κs : Lfts 1) (a : ArgsD signature κs) (r : ResD signature κs) (s : AtExit (endedOf 1 kinds.ps kinds.r) κs)
     → reads.Post κs a r s → r ≡ windowAnswer (a .0 .reports) (now (a .1 .0))

@@ -7,8 +7,9 @@ use Prim.Native.Nat.{ℕ, _+_, _*_, _≤_}
 use mathlib.Core.List.{List}
 use lib.Dec.{eqb}
 use Rattle.machine.specs.Lists.{digit}
-use Rattle.records.specs.declared.HalfCounts.{HalfCounts}
-use Rattle.records.specs.Window.{entryFrom, counted, sumBelow}
+use Rattle.window_meaning.specs.declared.HalfCounts.{HalfCounts}
+use Rattle.records.specs.Window.{entryFrom}
+use Rattle.window_meaning.specs.Read.{counted, sumBelow}
 
 abbrev pub noneYet : HalfCounts
 noneYet = record { certain = 0; unsure = 0; none = 0; spent = 0; stopped = 0; turns = 0; guesses = 0; live = 0 }

@@ -4,7 +4,7 @@ ghost use Prim.Native.Nat.{_≤_};
 ghost use lib.ListN.{length};
 ghost use Rattle.records.specs.Window.{keptOf};
 ghost use Rattle.window.specs.Counts.{plus, Few, countsFrom};
-use records::HalfCounts;
+use window_meaning::HalfCounts;
 
 // How many reports are kept.
 pub fn kept(reports: u16) -> usize

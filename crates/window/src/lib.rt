@@ -5,14 +5,14 @@ ghost use mathlib.Core.Path.{_≡_};
 ghost use Prim.Native.Nat.{_+_, _≤_};
 ghost use lib.Dec.{ltb};
 ghost use lib.ListN.{length};
-ghost use Rattle.records.specs.Window.{windowAnswer};
+ghost use Rattle.window_meaning.specs.Read.{windowAnswer};
 ghost use Rattle.window.specs.Entering.{HalfIn, Enters};
 use machine::HalfReport;
-use records::Counts;
+use window_meaning::Counts;
 use records::Report;
 use records::State;
-use records::WindowAnswer;
-use records::WindowRefusal;
+use window_meaning::WindowAnswer;
+use window_meaning::WindowRefusal;
 use rules::word_number;
 
 // Whether the list is below its least length.

@@ -1,7 +1,7 @@
 -- `candidates::give` meets its contract. Assumes nothing.
 use lib.ListN.{length}
 use borrow.Author.Needs.{needs}
-use Rattle.records.specs.Candidates.{Asked}
+use Rattle.candidates_meaning.specs.Asking.{Asked}
 use Rattle.candidates.proofs.Giving.{Tested, given-room, given-number, gives-none, gives-one}
 use Rattle.candidates.proofs.give.Statement.{statement}
 use Rattle.candidates.proofs.give.Tie as tie

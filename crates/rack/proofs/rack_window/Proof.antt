@@ -1,8 +1,8 @@
 -- `rack::rack_window` meets its contract. Assumes nothing.
 use mathlib.Core.Path.{_∙_, ap}
 use Rattle.records.specs.declared.State.{State}
-use Rattle.records.specs.Window.{windowAnswer}
-use Rattle.plain.specs.Counts.{plainWindow}
+use Rattle.window_meaning.specs.Read.{windowAnswer}
+use Rattle.rack.specs.Counts.{plainWindow}
 use borrow.Author.Needs.{needs}
 use Rattle.rack.proofs.rack_window.Statement.{statement}
 use Rattle.rack.proofs.rack_window.Tie as tie

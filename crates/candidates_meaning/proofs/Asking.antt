@@ -1,7 +1,7 @@
 -- The refusal of a candidate has the lowest number among those whose tests pass. Assumes nothing.
 use native.Mathlib.Omega.{arith}
-use Rattle.records.specs.Candidates.{candidateNumber, candidateTests, CandidateNumberedLaw}
+use Rattle.candidates_meaning.specs.Asking.{candidateNumber, candidateTests, CandidateNumberedLaw}
 use Rattle.records.proofs.Lowest.{numbered}
 
 pub candidate-numbered : CandidateNumberedLaw
 unfolding CandidateNumberedLaw

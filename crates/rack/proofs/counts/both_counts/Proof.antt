@@ -1,7 +1,7 @@
--- `plain::counts::both_counts` meets its contract. Assumes nothing.
+-- `rack::counts::both_counts` meets its contract. Assumes nothing.
 use borrow.Author.Needs.{needs}
-use Rattle.plain.proofs.counts.both_counts.Statement.{statement}
-use Rattle.plain.proofs.counts.both_counts.Tie as tie
+use Rattle.rack.proofs.counts.both_counts.Statement.{statement}
+use Rattle.rack.proofs.counts.both_counts.Tie as tie
 
 half-counts-requires : tie.Need-half-counts-requires
 half-counts-requires c κs = search needs

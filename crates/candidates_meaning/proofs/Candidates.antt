@@ -1,26 +1,24 @@
 -- Each class has one candidate: values of the live guesses are the numbers below 2^live. Assumes nothing.
 use mathlib.Core.Path.{_≡_, refl, sym, ap, _∙_, subst, fun-ext}
-use mathlib.Core.Bool.{Bool, true, false, not, cond}
+use mathlib.Core.Bool.{true, false}
 use Prim.Native.Nat.{ℕ, suc, _^_, _≤_, _<_}
 use native.Mathlib.Omega.{arith}
-use lib.Dec.{eqb}
-use Rattle.binary.specs.Bits.{below}
 use Rattle.binary.specs.Meaning.{Qubits, Differ}
 use Rattle.binary.proofs.Bits.{never}
 use Rattle.binary.proofs.WordBits.{bit-zero}
 use Rattle.binary.proofs.NumberBits.{numberOf, number-few, number-bit, same-bits}
 use Rattle.machine.specs.declared.Word.{Word}
 use Rattle.machine.specs.declared.Word.the-variants.{Certain, Unsure, None, Spent, Stopped}
 use Rattle.machine.specs.Words.{finished?}
-use Rattle.machine.specs.Machine.{Form, State, on, Half, checks, fixedOf, ruleOf, decoded, isOpen, noneOpen}
+use Rattle.machine.specs.Machine.{Form, State, on, Half, checks, fixedOf, decoded, isOpen}
 use Rattle.machine.specs.Report.{Shown, shown, outcome}
 use Rattle.machine.specs.Demands.{Obeys, fills, FillingsLaw, ClassesLaw}
-use Rattle.machine.specs.Candidates.{choice, candidateOf, CandidatesLaw}
-use Rattle.machine.proofs.Runs.{Said, said-shut}
+use Rattle.candidates_meaning.specs.Candidates.{choice, candidateOf, CandidatesLaw}
 use Rattle.machine.proofs.Stages.{Good}
 use Rattle.machine.proofs.Values.{value-same}
 use Rattle.machine.proofs.Verdicts.{values-fit}
-use Rattle.machine.proofs.Demands.{not-none, half-said, asState, outcome-good, even, shut-all, fillings, classes}
+use Rattle.machine.proofs.Demands.{half-said, asState, outcome-good, even, fillings, classes}
+use Rattle.machine.proofs.Finished.{certain-none, over-shut-all}
 
 ----------------------------------------------------------------------
 -- Values of the live guesses as a number
@@ -40,18 +38,7 @@ choice-once live c c′ i j e = same-bits live c c′ i j (λ k l. e (suc k) (om
 ----------------------------------------------------------------------
 -- A finished half
 
--- No qubit is open, and a certain half has no live guess.
 module _ (h : Half) (budget limit : ℕ) where
-  over-shut : (w : Word) (st : State) → finished? w ≡ true → Said (checks h) (h .size) (ruleOf h) budget limit w st
-      → noneOpen (checks h) (h .size) (ruleOf h) (asState (shown (h .size) (record { word = w; state = st }))) ≡ true
-  unfolding shown
-  over-shut w st e z =
-      ap (λ (b : Bool). below (h .size) (λ q. not (eqb (cond b 0 (st .mark q)) 4))) (not-none w (λ i. never e (ap finished? i)))
-      ∙ said-shut (checks h) (h .size) (ruleOf h) budget limit w st e z
-
-  certain-none : (w : Word) (st : State) → w ≡ Certain → Said (checks h) (h .size) (ruleOf h) budget limit w st → st .forms .live ≡ 0
-  certain-none w st e z = subst (λ (x : Word). Said (checks h) (h .size) (ruleOf h) budget limit x st) e z .1
-
   flips-off : (w : Word) (st : State) → finished? w ≡ true → let s : Shown = shown (h .size) (record { word = w; state = st }) in
       (q : ℕ) → candidateOf s 0 q ≡ s .flip q
   unfolding shown
@@ -60,14 +47,6 @@ module _ (h : Half) (budget limit : ℕ) where
   flips-off None st e q = never e refl
   flips-off Spent st e q = never e refl
   flips-off Stopped st e q = never e refl
-
--- A finished half shows no open qubit.
-pub over-shut-all : (h : Half) → Obeys h → (budget limit : ℕ) → finished? (outcome h budget limit .report .word) ≡ true
-    → (q : ℕ) → isOpen (outcome h budget limit .mark) q ≡ false
-unfolding shown
-over-shut-all h obeys budget limit over =
-    shut-all h obeys (asState (outcome h budget limit)) (outcome-good h budget limit (λ e. never over (ap finished? e)))
-    (over-shut h budget limit (decoded h budget limit .word) (decoded h budget limit .state) over (half-said h budget limit))
 
 pub candidates : CandidatesLaw
 unfolding CandidatesLaw FillingsLaw ClassesLaw shown

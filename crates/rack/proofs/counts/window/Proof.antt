@@ -1,9 +1,9 @@
--- `plain::counts::window` meets its contract. Assumes nothing.
+-- `rack::counts::window` meets its contract. Assumes nothing.
 use mathlib.Core.Path.{_∙_, sym, ap}
-use Rattle.plain.specs.Counts.{plainWindow}
+use Rattle.rack.specs.Counts.{plainWindow}
 use borrow.Author.Needs.{needs}
-use Rattle.plain.proofs.counts.window.Statement.{statement}
-use Rattle.plain.proofs.counts.window.Tie as tie
+use Rattle.rack.proofs.counts.window.Statement.{statement}
+use Rattle.rack.proofs.counts.window.Tie as tie
 
 enum-known-answer : tie.Need-enum-known-answer
 enum-known-answer c = search needs

@@ -1,12 +1,12 @@
 // The counts of the last 256 reports as plain numbers.
 ghost use mathlib.Core.Path.{_≡_};
-ghost use Rattle.records.specs.declared.WindowAnswer.the-variants.{Counted};
-ghost use Rattle.records.specs.Window.{windowNumber};
-ghost use Rattle.plain.specs.Counts.{plainCounts, noCounts, plainWindow};
-use records::Counts;
-use records::HalfCounts;
-use records::WindowAnswer;
-use records::WindowRefusal;
+ghost use Rattle.window_meaning.specs.declared.WindowAnswer.the-variants.{Counted};
+ghost use Rattle.window_meaning.specs.Read.{windowNumber};
+ghost use Rattle.rack.specs.Counts.{plainCounts, noCounts, plainWindow};
+use window_meaning::Counts;
+use window_meaning::HalfCounts;
+use window_meaning::WindowAnswer;
+use window_meaning::WindowRefusal;
 
 // Of the halves of a kind among the last 256 reports: how many had each word, and the sums of turns, guesses and live.
 #[repr(C)]

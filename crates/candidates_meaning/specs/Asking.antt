@@ -15,12 +15,12 @@ use Rattle.machine.specs.declared.Word.{Word}
 use Rattle.machine.specs.Words.{finished?}
 use Rattle.machine.specs.Report.{marked}
 use Rattle.machine.specs.Lists.{view, formOf, digit}
-use Rattle.machine.specs.Candidates.{candidate}
-use Rattle.records.specs.declared.CandidateRefusal.{CandidateRefusal}
-use Rattle.records.specs.declared.CandidateRefusal.the-variants.{Short, Unfinished, Many}
-use Rattle.records.specs.declared.CandidateAnswer.{CandidateAnswer}
-use Rattle.records.specs.declared.CandidateAnswer.the-variants.{Refused, Given}
+use Rattle.candidates_meaning.specs.Candidates.{candidate}
+use Rattle.candidates_meaning.specs.declared.CandidateRefusal.{CandidateRefusal}
+use Rattle.candidates_meaning.specs.declared.CandidateRefusal.the-variants.{Short, Unfinished, Many}
+use Rattle.candidates_meaning.specs.declared.CandidateAnswer.{CandidateAnswer}
+use Rattle.candidates_meaning.specs.declared.CandidateAnswer.the-variants.{Refused, Given}
 use Rattle.records.specs.Lowest.{lowest, Numbered}
 
 pub record Asked : Type 0 where
   pub n : ℕ
