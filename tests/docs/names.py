@@ -5,7 +5,7 @@
   File.name         declared in File.antt; or a struct's field
   NAME_, NAME_*     the beginning of a plain name
   a plain name      a crate, a wrong edit, a folder, or declared in a crate, the header or the crate for Rust
-Other text, as a record, a line or a command, is no name.
+Other text, as a record, a line, a number or a command, is no name.
 Behind names a parenthesis says where they are declared: (crate), (crate File), (File), (crate/proofs/File), or several; so does the end of one, and 'in'.
 Each wrong edit is named, with its crate or in the row of a function of its crate, and what it replaces stands once. Each crate is named, and each public
 function. No spec stands on a proof.
@@ -22,13 +22,12 @@ WORD = r"[^\s(){}:;,.`|]+"
 NAMES = r"(?:`[^`]*`(?:, | and )?)+"
 PLACE = r"[a-z0-9_]+(?: [A-Z]\w*|/\w+/\w+(?:\.antt)?)"
 
-crates = re.findall(r"^([a-z0-9_]+):", open("crates.txt").read(), re.M)
 edits = glob.glob("crates/*/must-fail/*.edit")
 declared = collections.defaultdict(set)  # a name: the files that declare it
 items = collections.defaultdict(set)  # a file of code: its functions, types, constants, modules and fields
 members = collections.defaultdict(set)  # a record, a struct or an enum: its fields
 heads = collections.defaultdict(set)  # a name: the first word of its type, and of what it abbreviates
-told = collections.Counter()
+told = collections.Counter()  # what holds, and what does not
 
 
 def tell(holds, what):
@@ -48,6 +47,9 @@ def text_of(file):
 
 def split_names(names):
     return re.findall(r"`([^`]*)`", names)
+
+
+crates = re.findall(r"^([a-z0-9_]+):", text_of("crates.txt"), re.M)
 
 
 # ---- What is declared
@@ -113,7 +115,7 @@ def check_names(page, text):
         if found := re.fullmatch(r"(\S+ )?\.([^\s.]+)", name):
             record = (found[1] or record).strip()
             holds = is_field(record, found[2])
-        elif re.search(r"[^\w.:/?′*-]|^\W", name):
+        elif re.search(r"[^\w.:/?′*-]|^[\W\d]", name):
             continue
         elif "/" in name or re.search(r"\.(antt|rt|md|h)$", name):
             holds = is_path(name, beside)
@@ -122,7 +124,7 @@ def check_names(page, text):
             *scope, last = name.split("::")
             holds = is_item(scope, last)
         elif "." in name:
-            file, last = name.split(".")
+            file, last = name.rsplit(".", 1)
             holds = last in members[file] or any(f"/{file}.antt" in place for place in declared[last])
         elif found := re.fullmatch(r"(\w+_)\*?", name):
             holds = any(other.startswith(found[1]) for other in declared)
