@@ -117,7 +117,7 @@ def check_names(page, text):
             holds = is_field(record, found[2])
         elif re.search(r"[^\w.:/?′*-]|^[\W\d]", name):
             continue
-        elif "/" in name or re.search(r"\.(antt|rt|md|h)$", name):
+        elif "/" in name or re.search(r"\.(antt|rt|md|h|txt)$", name):
             holds = is_path(name, beside)
             beside = f"crates/{os.path.dirname(name)}/" if "/" in name else beside
         elif "::" in name:

@@ -1,7 +1,7 @@
 /* The loss decoder for a rack's own program, in C or C++. Link with librack.a.
  *
  * A program starts a `struct rack`, loads a code and sends shots: functions below make the records, `rack_take` takes one and hands back the answer.
- * `rack_counts_of` counts the last 256 reports. README.md has the tables of records, words and refusals; examples/c/steane.c is a whole program.
+ * `rack_counts_of` counts the last 256 reports. README.md has the tables of words and counts, docs/RECORDS.md those of records and refusals; examples/c/steane.c is a whole program.
  *
  * Which half reads which rows: the X half holds X errors, found from the Z rows, so `rack_lit_z` and `rack_unread_z` are about the X half. The Z half
  * holds Z errors, found from the X rows, so `rack_lit_x` and `rack_unread_x` are about the Z half. Nothing can object to the two exchanged.
