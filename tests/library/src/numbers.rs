@@ -15,7 +15,7 @@ const RAW: &str = include_str!("../../../crates/rack/rust/src/raw.rs");
 const PLAIN: &str = include_str!("../../../crates/plain/specs/Plain.antt");
 const MACHINE: &str = include_str!("../../../crates/machine/specs/Machine.antt");
 const TABLE: &str = include_str!("../../../crates/records/specs/Table.antt");
-const CANDIDATES: &str = include_str!("../../../crates/records/specs/Candidates.antt");
+const CANDIDATES: &str = include_str!("../../../crates/candidates_meaning/specs/Asking.antt");
 const LISTS: &str = include_str!("../../../crates/records/specs/Lists.antt");
 const WINDOW: &str = include_str!("../../../crates/records/specs/Window.antt");
 
