@@ -10,15 +10,15 @@ word-of-requires c κs = search needs
 give-requires : tie.Need-give-requires
 give-requires c κs = search needs
 
-candidate-requires : tie.Need-candidate-requires
-candidate-requires c κs = search needs
+number-requires : tie.Need-number-requires
+number-requires c κs = search needs
 
 same-length : tie.Need-same-length
 same-length c = search needs
 
 returns : tie.Need-returns
 returns c =
-    rack-gives _ _ _ _ _ _ _ _ _ _ _ (c .before .before .before .before .before .word-of .ensures) (c .before .before .before .give .ensures) (c .candidate2 .ensures)
+    rack-gives _ _ _ _ _ _ _ _ _ _ _ (c .before .before .before .before .before .word-of .ensures) (c .before .before .before .give .ensures) (c .number .ensures)
 
 pub rack-candidate-spec : {M : Type 1} → statement M
-rack-candidate-spec = tie.close (tie.spec word-of-requires give-requires candidate-requires same-length returns)
+rack-candidate-spec = tie.close (tie.spec word-of-requires give-requires number-requires same-length returns)
