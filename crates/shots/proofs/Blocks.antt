@@ -23,15 +23,15 @@ use Rattle.cutting.proofs.Nexts.{next-whole, next-cut}
 use Rattle.blocks.specs.declared.Block.{Block}
 use Rattle.blocks.specs.Blocks.{Sent, begun, Done}
 use Rattle.blocks.proofs.Sending.{sent-none, sent-join, sent-longer}
-use Rattle.shots.specs.declared.run.Turn.{Turn}
-use Rattle.shots.specs.Turns.{noTally, noOutput, standing, Turned, Ran}
+use Rattle.shots.specs.declared.run.Between.{Between}
+use Rattle.shots.specs.Run.{noTally, noOutput, standing, BlockTaken, Ran}
 
 drop-take : (n k : ℕ) (l : List ℕ) → n ≤ length l → drop n (take (n + k) l) ≡ take k (drop n l)
 drop-take n k l h =
     rw (take-add n k l) (drop-at (take n l) (take k (drop n l)) n (length-take-le n l h))
 
--- A turn: the records of the block are taken, and what is left is moved to its front.
-module _ (t : Turn) (l k : Passed) (old new : List ℕ) (f : Refilled) (full : Bool) (b : Block) (h : ℕ) (fits : f .end ≤ length old) (last : t .last ≡ false) (d : Done (f .ended) full (begun (t .state) (t .tally) l (take (f .end) old)) (t .output) k (take (f .end) old) b) (m : Keeps old new (b .taken) (f .end) h) where
+-- A block: its records are taken, and what is left is moved to its front.
+module _ (a : Between) (l k : Passed) (old new : List ℕ) (f : Refilled) (full : Bool) (b : Block) (h : ℕ) (fits : f .end ≤ length old) (last : a .last ≡ false) (d : Done (f .ended) full (begun (a .state) (a .tally) l (take (f .end) old)) (a .output) k (take (f .end) old) b) (m : Keeps old new (b .taken) (f .end) h) where
   taken-within : b .taken ≤ f .end
   taken-within = omega (arith, d .within, length-take-le (f .end) old fits)
 
@@ -43,20 +43,20 @@ module _ (t : Turn) (l k : Passed) (old new : List ℕ) (f : Refilled) (full : B
       length-take-le (f .end - b .taken) (drop (b .taken) old) (omega (arith, length-drop (b .taken) old, taken-within)) ∙ sym (moved .0)
 
   -- What is left is what is held.
-  turn-rest : take h new ≡ drop (b .taken) (take (f .end) old)
-  turn-rest =
+  block-rest : take h new ≡ drop (b .taken) (take (f .end) old)
+  block-rest =
       let e : b .taken + (f .end - b .taken) ≡ f .end = omega (arith, taken-within) in
       rw (moved .1, take-at (take (f .end - b .taken) (drop (b .taken) old)) (drop (f .end - b .taken) old) h left-long) (sym (rw e at (drop-take (b .taken) (f .end - b .taken) old (omega (arith, taken-within)))))
 
-  turn-sent : Sent (f .ended) (record { state = t .state; lists = l; tally = t .tally; over = t .last; rest = take (f .end) old }) (t .output) (record { state = b .state; lists = k; tally = b .tally; over = b .over; rest = take h new }) (b .output)
-  turn-sent = rw (last, turn-rest) (d .sent)
+  block-sent : Sent (f .ended) (record { state = a .state; lists = l; tally = a .tally; over = a .last; rest = take (f .end) old }) (a .output) (record { state = b .state; lists = k; tally = b .tally; over = b .over; rest = take h new }) (b .output)
+  block-sent = rw (last, block-rest) (d .sent)
 
-  turn-left : full ≡ false → b .output .failed ≡ false → b .over ≡ false → nextOf (f .ended) (take h new) ≡ 0
-  turn-left x y z = rw turn-rest (d .left x y z)
+  block-left : full ≡ false → b .output .failed ≡ false → b .over ≡ false → nextOf (f .ended) (take h new) ≡ 0
+  block-left x y z = rw block-rest (d .left x y z)
 
-  pub turned : (o : Bool) (x : ℤ) → length new ≡ length old → o ≡ b .output .failed || b .over || f .ended → Turned full t f l old k new (record { state = b .state; tally = b .tally; held = h; output = b .output; last = b .over; over = o; error = x })
-  turned o x same e =
-      record { sent = turn-sent; held = omega (arith, same, moved .0); over = e; left = turn-left }
+  pub block-taken : (o : Bool) (x : ℤ) → length new ≡ length old → o ≡ b .output .failed || b .over || f .ended → BlockTaken full a f l old k new (record { state = b .state; tally = b .tally; held = h; output = b .output; last = b .over; over = o; error = x })
+  block-taken o x same e =
+      record { sent = block-sent; held = omega (arith, same, moved .0); over = e; left = block-left }
 
 -- The block is handed on by its first bytes.
 pub whole-part : (e full : Bool) (st : State) (tally : Tally) (l k : Passed) (mid : List ℕ) (n : ℕ) (o : Output) (b : Block) → Done e full (begun st tally l (take (n - 0) (drop 0 mid))) o k (take (n - 0) (drop 0 mid)) b → Done e full (begun st tally l (take n mid)) o k (take n mid) b
@@ -77,13 +77,13 @@ rest-none l e =
     (λ p. omega (arith, next-cut true l (omega arith)))
     (eq-zero-or-pos (wholeOf l - length l))
 
-pub record Runs (full : Bool) (l k : Passed) (block : List ℕ) (t : Turn) : Type 0 where
+pub record Runs (full : Bool) (l k : Passed) (block : List ℕ) (a : Between) : Type 0 where
   pub input : List ℕ
   pub ended : Bool
-  pub sent : Sent ended (begun freshState noTally l input) noOutput (standing t k (take (t .held) block)) (t .output)
-  pub goes : t .over ≡ false → (ended ≡ false) × (t .last ≡ false)
-  pub held : t .held ≤ length block
-  pub left : ended ≡ true → full ≡ false → t .output .failed ≡ false → t .last ≡ false → nextOf ended (take (t .held) block) ≡ 0
+  pub sent : Sent ended (begun freshState noTally l input) noOutput (standing a k (take (a .held) block)) (a .output)
+  pub goes : a .over ≡ false → (ended ≡ false) × (a .last ≡ false)
+  pub held : a .held ≤ length block
+  pub left : ended ≡ true → full ≡ false → a .output .failed ≡ false → a .last ≡ false → nextOf ended (take (a .held) block) ≡ 0
 
 none-over : (a b c : Bool) → a || b || c ≡ false → (c ≡ false) × (b ≡ false)
 none-over false false false e = (refl, refl)
@@ -101,18 +101,18 @@ input-more old mid held f q =
     let e : held + (f .end - held) ≡ f .end = omega (arith, q .more) in
     rw (sym (q .stays)) (sym (rw e at (take-add held (f .end - held) mid)))
 
-pub runs-more : (full : Bool) (l k j : Passed) (block mid new : List ℕ) (t r : Turn) (f : Refilled) → Runs full l k block t → t .over ≡ false → Refills block mid (t .held) f → Turned full t f k mid j new r → Runs full l j new r
-runs-more full l k j block mid new t r f s o q u =
-    let z : Sent (f .ended) (standing t k (take (t .held) block ++ take (f .end - t .held) (drop (t .held) mid))) (t .output) (standing r j (take (r .held) new)) (r .output) = rw (input-more block mid (t .held) f q) (u .sent) in
+pub runs-more : (full : Bool) (l k j : Passed) (block mid new : List ℕ) (a r : Between) (f : Refilled) → Runs full l k block a → a .over ≡ false → Refills block mid (a .held) f → BlockTaken full a f k mid j new r → Runs full l j new r
+runs-more full l k j block mid new a r f s o q u =
+    let z : Sent (f .ended) (standing a k (take (a .held) block ++ take (f .end - a .held) (drop (a .held) mid))) (a .output) (standing r j (take (r .held) new)) (r .output) = rw (input-more block mid (a .held) f q) (u .sent) in
     record {
-      input = s .input ++ take (f .end - t .held) (drop (t .held) mid);
+      input = s .input ++ take (f .end - a .held) (drop (a .held) mid);
       ended = f .ended;
-      sent = sent-join (sent-longer (f .ended) (take (f .end - t .held) (drop (t .held) mid)) (rw (s .goes o .0) at (s .sent))) z;
+      sent = sent-join (sent-longer (f .ended) (take (f .end - a .held) (drop (a .held) mid)) (rw (s .goes o .0) at (s .sent))) z;
       goes = λ e. none-over (r .output .failed) (r .last) (f .ended) (sym (u .over) ∙ e);
       held = u .held;
       left = λ e. u .left;
     }
 
-pub runs-ran : (full : Bool) (l k : Passed) (block : List ℕ) (t : Turn) → Runs full l k block t → Ran full l k t
-runs-ran full l k block t s =
-    record { input = s .input; rest = take (t .held) block; ended = s .ended; sent = s .sent; left = λ e x y z. rest-none (take (t .held) block) (rw e at (s .left e x y z)) }
+pub runs-ran : (full : Bool) (l k : Passed) (block : List ℕ) (a : Between) → Runs full l k block a → Ran full l k a
+runs-ran full l k block a s =
+    record { input = s .input; rest = take (a .held) block; ended = s .ended; sent = s .sent; left = λ e x y z. rest-none (take (a .held) block) (rw e at (s .left e x y z)) }

@@ -1,7 +1,7 @@
 -- Block after block. The contract of `read` does not say which bytes it gives, so that of the whole run says that there are some.
 --   noTally, noOutput  nothing is counted, nothing is written
 --   standing           where the program stands between two blocks, with these bytes left
---   Turned             a block more: the records of the bytes held and read were taken and their lines written; what is left is held
+--   BlockTaken         a block more: the records of the bytes held and read were taken and their lines written; what is left is held
 --   Ran                from a fresh start: the bytes of all reads are the input, of which the records were taken in their order, and the lines of
 --                      all answers handed to the output; if it ended, and the records are not over and no write failed, nothing is left
 use mathlib.Core.Path.{_≡_}
@@ -17,7 +17,7 @@ use Rattle.output.specs.declared.Output.{Output}
 use Rattle.cutting.specs.Cutting.{nextOf}
 use Rattle.taking.specs.Taking.{Stand}
 use Rattle.blocks.specs.Blocks.{Sent, begun}
-use Rattle.shots.specs.declared.run.Turn.{Turn}
+use Rattle.shots.specs.declared.run.Between.{Between}
 
 abbrev pub noTally : Tally
 noTally = record { bytes = 0; records = 0; codes = 0; decodes = 0; refusals = 0; last = 0; more = 0 }
@@ -25,16 +25,16 @@ noTally = record { bytes = 0; records = 0; codes = 0; decodes = 0; refusals = 0;
 abbrev pub noOutput : Output
 noOutput = record { bytes = 0; records = 0; failed = false }
 
-abbrev pub standing : Turn → Passed → List ℕ → Stand
-standing t l rest = record { state = t .state; lists = l; tally = t .tally; over = t .last; rest = rest }
+abbrev pub standing : Between → Passed → List ℕ → Stand
+standing a l rest = record { state = a .state; lists = l; tally = a .tally; over = a .last; rest = rest }
 
-pub record Turned (full : Bool) (t : Turn) (f : Refilled) (l : Passed) (old : List ℕ) (k : Passed) (new : List ℕ) (r : Turn) : Type 0 where
-  pub sent : Sent (f .ended) (standing t l (take (f .end) old)) (t .output) (standing r k (take (r .held) new)) (r .output)
+pub record BlockTaken (full : Bool) (a : Between) (f : Refilled) (l : Passed) (old : List ℕ) (k : Passed) (new : List ℕ) (r : Between) : Type 0 where
+  pub sent : Sent (f .ended) (standing a l (take (f .end) old)) (a .output) (standing r k (take (r .held) new)) (r .output)
   pub held : r .held ≤ length new
   pub over : r .over ≡ r .output .failed || r .last || f .ended
   pub left : full ≡ false → r .output .failed ≡ false → r .last ≡ false → nextOf (f .ended) (take (r .held) new) ≡ 0
 
-pub record Ran (full : Bool) (l k : Passed) (r : Turn) : Type 0 where
+pub record Ran (full : Bool) (l k : Passed) (r : Between) : Type 0 where
   pub input : List ℕ
   pub rest : List ℕ
   pub ended : Bool
