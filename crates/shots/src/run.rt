@@ -9,16 +9,17 @@ ghost use Prim.Native.Nat.{_≤_};
 ghost use lib.ListN.{length};
 ghost use Rattle.claim.specs.Calls.{passed};
 ghost use Rattle.cutting.specs.Room.{isFull};
-ghost use Rattle.shots.specs.Run.{BlockTaken, Ran};
+ghost use Rattle.shots.specs.Run.{HasRoom, BlockTaken, Ran};
 
-// What passes from block to block: the state, the counts, the bytes held at the front of the next one, what is written, whether the
-// records are over (last), and whether nothing more is read (over). error: errno where the last read failed, and 0 else.
+// What passes from block to block: the state, the counts, how many bytes are held at the front of the next one, and what is written.
+// last: the records are over. ended: the input is. over: nothing more is read. error: errno where the last read failed, and 0 else.
 pub struct Between {
     state: State,
     tally: Tally,
     held: usize,
     output: Output,
     last: bool,
+    ended: bool,
     over: bool,
     error: i32,
 }
@@ -35,8 +36,8 @@ fn take_block(
     out: &mut [u8],
     places: &mut [usize],
 ) -> Between
-    requires { ⌜ (read .end ≤ length (now block)) × (here .last ≡ false) ⌝ }
-    ensures { λ r. ⌜ BlockTaken (isFull 0 (length (now (out .entry))) 0 (length (now (places .entry)))) here read (passed (now (flat .entry)) (now (ends .entry)) (now (shot .entry)) (now (window .entry))) (now (block .entry)) (passed (now (flat .exit)) (now (ends .exit)) (now (shot .exit)) (now (window .exit))) (now (block .exit)) r ⌝ }
+    requires { ⌜ (read .end ≤ length (now block)) × (here .last ≡ false) × (isFull 0 (length (now out)) 0 (length (now places)) ≡ false) ⌝ }
+    ensures { λ r. ⌜ BlockTaken here read (passed (now (flat .entry)) (now (ends .entry)) (now (shot .entry)) (now (window .entry))) (now (block .entry)) (passed (now (flat .exit)) (now (ends .exit)) (now (shot .exit)) (now (window .exit))) (now (block .exit)) r ⌝ }
 {
     let st = here.state;
     let tally = here.tally;
@@ -64,12 +65,14 @@ fn take_block(
         held: input::keep(block, b.taken, end),
         output: after,
         last: b.over,
+        ended: read.ended,
         over: after.failed | b.over | read.ended,
         error: read.error,
     }
 }
 
-// Block after block to the end. A proved loop has to end, so the refills are counted down from a number that no input uses up.
+// Block after block to the end: of the input, after refusal 1 or a record that is cut off, or at a write that failed. A proved loop has to
+// end, so the refills are counted down; each that does not end the run brings a byte, so more than 2^63 bytes use them up.
 pub fn run(
     flat: &mut [u16],
     ends: &mut [u16],
@@ -79,7 +82,8 @@ pub fn run(
     out: &mut [u8],
     places: &mut [usize],
 ) -> Between
-    ensures { λ r. ⌜ Ran (isFull 0 (length (now (out .entry))) 0 (length (now (places .entry)))) (passed (now (flat .entry)) (now (ends .entry)) (now (shot .entry)) (now (window .entry))) (passed (now (flat .exit)) (now (ends .exit)) (now (shot .exit)) (now (window .exit))) r ⌝ }
+    requires { ⌜ HasRoom (length (now block)) (length (now out)) (length (now places)) ⌝ }
+    ensures { λ r. ⌜ Ran (passed (now (flat .entry)) (now (ends .entry)) (now (shot .entry)) (now (window .entry))) (passed (now (flat .exit)) (now (ends .exit)) (now (shot .exit)) (now (window .exit))) (now (block .exit)) r ⌝ }
 {
     let st = states::fresh();
     let none = Tally {
@@ -102,6 +106,7 @@ pub fn run(
         held: 0,
         output: output,
         last: false,
+        ended: false,
         over: false,
         error: 0,
     };
