@@ -12,11 +12,12 @@ struct Got {
     error: i32,
 }
 
-// How many bytes there are then. ended: no more come. error: errno where that is since a read failed, and 0 else.
+// How many bytes there are then. ended: no more come. error: errno where that is since a read failed, and 0 else. reads: how many were made.
 pub struct Refilled {
     pub end: usize,
     pub ended: bool,
     pub error: i32,
+    pub reads: u64,
 }
 
 // One read to the block behind the `held` bytes.
@@ -49,7 +50,7 @@ fn read_once(block: &mut [u8], held: usize) -> Got
 }
 
 // Reads to the block behind the `held` bytes, again where a read was interrupted or there is nothing to read for now. A proved loop has to
-// end, so the reads are counted down from a number that no input uses up.
+// end, so the reads are counted: the last of 2^64 - 1 is not tried again, and a read that gave nothing is then the end of the input.
 pub fn refill(block: &mut [u8], held: usize) -> Refilled
     ensures { λ r. ⌜ Refills (now (block .entry)) (now (block .exit)) held r ⌝ }
 {
@@ -58,18 +59,20 @@ pub fn refill(block: &mut [u8], held: usize) -> Refilled
             end: held,
             ended: true,
             error: 0,
+            reads: 0,
         };
     }
     let mut got = read_once(block, held);
-    let mut reads = u64::MAX;
-    while reads > 0 && got.again {
+    let mut reads: u64 = 1;
+    while reads < u64::MAX && got.again {
         got = read_once(block, held);
-        reads -= 1;
+        reads += 1;
     }
     Refilled {
         end: held + got.count,
-        ended: (got.count == 0) & !got.again,
+        ended: got.count == 0,
         error: got.error,
+        reads: reads,
     }
 }
 

@@ -9,23 +9,24 @@ ghost use Prim.Native.Nat.{_≤_};
 ghost use lib.ListN.{length};
 ghost use Rattle.claim.specs.Calls.{passed};
 ghost use Rattle.cutting.specs.Room.{isFull};
-ghost use Rattle.shots.specs.Turns.{Turned, Ran};
+ghost use Rattle.shots.specs.Run.{HasRoom, BlockTaken, Ran};
 
-// What passes from block to block: the state, the counts, the bytes held at the front of the next one, what is written, whether the
-// records are over (last), and whether nothing more is read (over). error: errno where the last read failed, and 0 else.
-pub struct Turn {
+// What passes from block to block: the state, the counts, how many bytes are held at the front of the next one, and what is written.
+// last: the records are over. ended: the input is. over: nothing more is read. error: errno where the last read failed, and 0 else.
+pub struct Between {
     state: State,
     tally: Tally,
     held: usize,
     output: Output,
     last: bool,
+    ended: bool,
     over: bool,
     error: i32,
 }
 
 // Takes the records of the bytes held and read, and holds what is left.
-fn one_turn(
-    t: Turn,
+fn take_block(
+    here: Between,
     read: Refilled,
     flat: &mut [u16],
     ends: &mut [u16],
@@ -34,13 +35,13 @@ fn one_turn(
     block: &mut [u8],
     out: &mut [u8],
     places: &mut [usize],
-) -> Turn
-    requires { ⌜ (read .end ≤ length (now block)) × (t .last ≡ false) ⌝ }
-    ensures { λ r. ⌜ Turned (isFull 0 (length (now (out .entry))) 0 (length (now (places .entry)))) t read (passed (now (flat .entry)) (now (ends .entry)) (now (shot .entry)) (now (window .entry))) (now (block .entry)) (passed (now (flat .exit)) (now (ends .exit)) (now (shot .exit)) (now (window .exit))) (now (block .exit)) r ⌝ }
+) -> Between
+    requires { ⌜ (read .end ≤ length (now block)) × (here .last ≡ false) × (isFull 0 (length (now out)) 0 (length (now places)) ≡ false) ⌝ }
+    ensures { λ r. ⌜ BlockTaken here read (passed (now (flat .entry)) (now (ends .entry)) (now (shot .entry)) (now (window .entry))) (now (block .entry)) (passed (now (flat .exit)) (now (ends .exit)) (now (shot .exit)) (now (window .exit))) (now (block .exit)) r ⌝ }
 {
-    let st = t.state;
-    let tally = t.tally;
-    let output = t.output;
+    let st = here.state;
+    let tally = here.tally;
+    let output = here.output;
     let end = read.end;
     let b = blocks::one_block(
         st,
@@ -58,18 +59,20 @@ fn one_turn(
     let state = b.state;
     let counted = b.tally;
     let after = b.output;
-    Turn {
+    Between {
         state: state,
         tally: counted,
         held: input::keep(block, b.taken, end),
         output: after,
         last: b.over,
+        ended: read.ended,
         over: after.failed | b.over | read.ended,
         error: read.error,
     }
 }
 
-// Turn by turn to the end. A proved loop has to end, so the turns are counted down from a number that no input uses up.
+// Block after block to the end: of the input, after refusal 1 or a record that is cut off, or at a write that failed. A proved loop has to
+// end, so the refills are counted down; each that does not end the run brings a byte, so more than 2^63 bytes use them up.
 pub fn run(
     flat: &mut [u16],
     ends: &mut [u16],
@@ -78,8 +81,9 @@ pub fn run(
     block: &mut [u8],
     out: &mut [u8],
     places: &mut [usize],
-) -> Turn
-    ensures { λ r. ⌜ Ran (isFull 0 (length (now (out .entry))) 0 (length (now (places .entry)))) (passed (now (flat .entry)) (now (ends .entry)) (now (shot .entry)) (now (window .entry))) (passed (now (flat .exit)) (now (ends .exit)) (now (shot .exit)) (now (window .exit))) r ⌝ }
+) -> Between
+    requires { ⌜ HasRoom (length (now block)) (length (now out)) (length (now places)) ⌝ }
+    ensures { λ r. ⌜ Ran (passed (now (flat .entry)) (now (ends .entry)) (now (shot .entry)) (now (window .entry))) (passed (now (flat .exit)) (now (ends .exit)) (now (shot .exit)) (now (window .exit))) (now (block .exit)) r ⌝ }
 {
     let st = states::fresh();
     let none = Tally {
@@ -96,31 +100,32 @@ pub fn run(
         records: 0,
         failed: false,
     };
-    let mut t = Turn {
+    let mut here = Between {
         state: st,
         tally: none,
         held: 0,
         output: output,
         last: false,
+        ended: false,
         over: false,
         error: 0,
     };
-    let mut turns = u64::MAX;
-    while turns > 0 && !t.over {
-        let read = input::refill(block, t.held);
-        t = one_turn(t, read, flat, ends, shot, window, block, out, places);
-        turns -= 1;
+    let mut refills = u64::MAX;
+    while refills > 0 && !here.over {
+        let read = input::refill(block, here.held);
+        here = take_block(here, read, flat, ends, shot, window, block, out, places);
+        refills -= 1;
     }
-    t
+    here
 }
 
 // Tells standard error how the run ended.
-pub fn tell(t: Turn) {
-    let state = t.state;
-    let tally = t.tally;
-    let output = t.output;
+pub fn tell(end: Between) {
+    let state = end.state;
+    let tally = end.tally;
+    let output = end.output;
     telling::tell_end(tally, state);
-    telling::tell_read(t.error);
+    telling::tell_read(end.error);
     if output.failed {
         telling::tell_write(output.bytes, output.records);
     }

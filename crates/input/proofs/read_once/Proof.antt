@@ -1,13 +1,13 @@
 -- `input::read_once` meets its contract. Assumes nothing.
 use lib.ListN.{length}
-use Prim.Native.Nat.{_-_}
+use Prim.Native.Nat.{ℕ, _-_}
 use Rattle.output.proofs.Calls.{above, moved-within}
 use borrow.Rule.Slice.PartMut.{take-put}
 use mir.Val.{toZ, ofZ}
 use mir.Syntax.{w64}
 use denote.Ref.{now}
 use native.Mathlib.Omega.{arith}
-use mathlib.Core.Path.{refl}
+use mathlib.Core.Path.{_≡_, refl}
 use borrow.Author.Needs.{needs}
 use Rattle.input.proofs.read_once.Statement.{statement}
 use Rattle.input.proofs.read_once.Tie as tie
@@ -31,7 +31,7 @@ same-length : tie.Need-same-length
 same-length c = search needs
 
 returns : tie.Need-returns
-returns c = (record { most = omega (arith, moved-within (now (c .before .before .before .before .before .before .args .block)) (c .before .before .before .before .before .before .args .held) (c .before .before .before .read .result) (c .before .before .before .before .before .before .pre) (c .before .before .before .read .ok) (c .before .before .before .read .ensures) (c .if1 .taken)); again = refl }, take-put (c .before .before .before .before .before .before .args .held) (length (now (c .before .before .before .before .before .before .args .block)) - c .before .before .before .before .before .before .args .held) (now (c .before .before .before .before .before .before .args .block)) (c .before .before .before .read .last .1 .0) (c .before .before .before .before .before .before .pre))
+returns c = (record { most = omega (arith, moved-within (now (c .before .before .before .before .before .before .args .block)) (c .before .before .before .before .before .before .args .held) (c .before .before .before .read .result) (c .before .before .before .before .before .before .pre) (c .before .before .before .read .ok) (c .before .before .before .read .ensures) (c .if1 .taken)); again = refl; none = λ e. let z : _≡_ {A = ℕ} 0 1 = cc in absurd (omega arith) }, take-put (c .before .before .before .before .before .before .args .held) (length (now (c .before .before .before .before .before .before .args .block)) - c .before .before .before .before .before .before .args .held) (now (c .before .before .before .before .before .before .args .block)) (c .before .before .before .read .last .1 .0) (c .before .before .before .before .before .before .pre))
 
 errno-requires : tie.Need-errno-requires
 errno-requires c κs = search needs
@@ -43,13 +43,13 @@ same-length-2 : tie.Need-same-length-2
 same-length-2 c = search needs
 
 returns-2 : tie.Need-returns-2
-returns-2 c = (record { most = omega arith; again = c .try-again .ensures }, take-put (c .before .before .before .before .before .before .before .before .before .args .held) (length (now (c .before .before .before .before .before .before .before .before .before .args .block)) - c .before .before .before .before .before .before .before .before .before .args .held) (now (c .before .before .before .before .before .before .before .before .before .args .block)) (c .before .before .before .before .before .before .read .last .1 .0) (c .before .before .before .before .before .before .before .before .before .pre))
+returns-2 c = (record { most = omega arith; again = c .try-again .ensures; none = λ e. refl }, take-put (c .before .before .before .before .before .before .before .before .before .args .held) (length (now (c .before .before .before .before .before .before .before .before .before .args .block)) - c .before .before .before .before .before .before .before .before .before .args .held) (now (c .before .before .before .before .before .before .before .before .before .args .block)) (c .before .before .before .before .before .before .read .last .1 .0) (c .before .before .before .before .before .before .before .before .before .pre))
 
 same-length-3 : tie.Need-same-length-3
 same-length-3 c = search needs
 
 returns-3 : tie.Need-returns-3
-returns-3 c = (record { most = omega arith; again = refl }, take-put (c .before .before .before .before .before .before .before .args .held) (length (now (c .before .before .before .before .before .before .before .args .block)) - c .before .before .before .before .before .before .before .args .held) (now (c .before .before .before .before .before .before .before .args .block)) (c .before .before .before .before .read .last .1 .0) (c .before .before .before .before .before .before .before .pre))
+returns-3 c = (record { most = omega arith; again = refl; none = λ e. refl }, take-put (c .before .before .before .before .before .before .before .args .held) (length (now (c .before .before .before .before .before .before .before .args .block)) - c .before .before .before .before .before .before .before .args .held) (now (c .before .before .before .before .before .before .before .args .block)) (c .before .before .before .before .read .last .1 .0) (c .before .before .before .before .before .before .before .pre))
 
 pub read-once-spec : {M : Type 1} → statement M
 read-once-spec =

@@ -1,38 +1,43 @@
 -- `shots::run::run` meets its contract. Assumes nothing.
-use Rattle.shots.proofs.Blocks.{Runs, runs-none, runs-more, runs-ran}
-use Rattle.cutting.specs.Room.{isFull}
+use Rattle.shots.proofs.Rests.{room-left}
+use Rattle.shots.proofs.Runs.{Runs, runs-none, goes-on, goes-room, runs-more, runs-ran}
+use Rattle.shots.specs.Run.{BlockRead}
 use Rattle.claim.specs.Calls.{passed}
 use lib.ListN.{length}
-use borrow.Author.Tests.{not-true}
+use borrow.Author.Tests.{not-true, not-false}
 use borrow.Author.Needs.{needs}
 use native.Mathlib.Omega.{arith}
+use mathlib.Core.Bool.{false}
+use mathlib.Core.Logic.{inl, inr}
 use mathlib.Core.Path.{_≡_, refl, _∙_}
 use Rattle.shots.proofs.run.run.Statement.{statement}
 use Rattle.shots.proofs.run.run.Tie as tie
 
 abbrev Inv-loop : tie.InvT-loop
-Inv-loop flat₀ ends₀ shot₀ window₀ block₀ out₀ places₀ t₀ turns₀ flat ends shot window block out places t turns =
-    Runs (isFull 0 (length out₀) 0 (length places₀)) (passed flat₀ ends₀ shot₀ window₀) (passed flat ends shot window) block t × (length flat ≡ length flat₀) × (length ends ≡ length ends₀) × (length shot ≡ length shot₀) × (length window ≡ length window₀) × (length block ≡ length block₀) × (length out ≡ length out₀) × (length places ≡ length places₀)
+Inv-loop flat₀ ends₀ shot₀ window₀ block₀ out₀ places₀ here₀ refills₀ flat ends shot window block out places here refills =
+    Runs (passed flat₀ ends₀ shot₀ window₀) (passed flat ends shot window) block here refills × (length flat ≡ length flat₀) × (length ends ≡ length ends₀) × (length shot ≡ length shot₀) × (length window ≡ length window₀) × (length block ≡ length block₀) × (length out ≡ length out₀) × (length places ≡ length places₀)
 
 abbrev μ-loop : tie.MeasureT-loop
-μ-loop flat₀ ends₀ shot₀ window₀ block₀ out₀ places₀ t₀ turns₀ flat ends shot window block out places t turns = turns
+μ-loop flat₀ ends₀ shot₀ window₀ block₀ out₀ places₀ here₀ refills₀ flat ends shot window block out places here refills = refills
 
 fresh-requires : tie.Need-fresh-requires Inv-loop μ-loop
 fresh-requires c κs = search needs
 
 loop-holds : tie.Need-loop-holds Inv-loop μ-loop
-loop-holds c = (runs-none _ _ _ (c .fresh .result) _ (c .fresh .ensures), refl, refl, refl, refl, refl, refl, refl)
+loop-holds c = (runs-none _ _ (c .fresh .result) (c .fresh .ensures), refl, refl, refl, refl, refl, refl, refl)
 
 refill-requires : tie.Need-refill-requires Inv-loop μ-loop
 refill-requires c κs = search needs
 
-one-turn-requires : tie.Need-one-turn-requires Inv-loop μ-loop
-one-turn-requires c κs =
+take-block-requires : tie.Need-take-block-requires Inv-loop μ-loop
+take-block-requires c κs =
     let l = c .before .before .before .before .before .before .before .before .before .before .before .before .before .before .loop in
-    (omega (arith, c .before .before .before .before .before .before .before .before .before .refill .ensures .most (l .inv .0 .held), c .before .before .before .before .before .before .before .before .before .refill .kept .0), l .inv .0 .goes (not-true _ (c .before .before .before .before .before .before .before .before .before .before .before .if1 .taken)) .1)
+    let f = c .before .before .before .before .before .before .before .before .before .refill in
+    let o : l .here .over ≡ false = not-true _ (c .before .before .before .before .before .before .before .before .before .before .before .if1 .taken) in
+    (omega (arith, f .ensures .most (l .inv .0 .held), f .kept .0), goes-on (l .inv .0) o .1, room-left (c .before .before .before .before .before .before .before .before .before .before .before .before .before .before .before .before .before .before .before .before .before .before .before .pre) (l .inv .6) (l .inv .7))
 
-sub-turns : tie.Need-sub-turns Inv-loop μ-loop
-sub-turns c = omega (arith, c .before .before .before .before .before .before .before .before .before .before .before .before .before .before .before .before .before .before .before .before .before .before .before .before .before .before .before .before .loop-test .taken)
+sub-refills : tie.Need-sub-refills Inv-loop μ-loop
+sub-refills c = omega (arith, c .before .before .before .before .before .before .before .before .before .before .before .before .before .before .before .before .before .before .before .before .before .before .before .before .before .before .before .before .loop-test .taken)
 
 loop-less : tie.Need-loop-less Inv-loop μ-loop
 loop-less c = omega (arith, c .before .before .before .before .before .before .before .before .before .before .before .before .before .before .before .before .before .before .before .before .before .before .before .before .before .before .before .before .loop-test .taken)
@@ -40,9 +45,11 @@ loop-less c = omega (arith, c .before .before .before .before .before .before .b
 loop-again : tie.Need-loop-again Inv-loop μ-loop
 loop-again c =
     let l = c .before .before .before .before .before .before .before .before .before .before .before .before .before .before .before .before .before .before .before .before .before .before .before .before .before .before .before .before .before .loop in
-    let r = c .before .before .before .before .before .before .before .before .before .before .before .before .before .before .one-turn in
+    let r = c .before .before .before .before .before .before .before .before .before .before .before .before .before .before .take-block in
     let f = c .before .before .before .before .before .before .before .before .before .before .before .before .before .before .before .before .before .before .before .before .before .before .before .before .refill in
-    (runs-more _ _ _ _ (l .block) (f .last .0) _ (l .t) (r .result) (f .result) (l .inv .0) (not-true _ (c .before .before .before .before .before .before .before .before .before .before .before .before .before .before .before .before .before .before .before .before .before .before .before .before .before .before .if1 .taken)) (f .ensures) (rw (l .inv .6, l .inv .7) at (r .ensures)), r .kept .1 .1 .0 ∙ l .inv .1, r .kept .1 .1 .1 .0 ∙ l .inv .2, r .kept .1 .1 .1 .1 .0 ∙ l .inv .3, r .kept .1 .1 .1 .1 .1 .0 ∙ l .inv .4, r .kept .1 .1 .1 .1 .1 .1 .0 ∙ (f .kept .0 ∙ l .inv .5), r .kept .1 .1 .1 .1 .1 .1 .1 .0 ∙ l .inv .6, r .kept .1 .1 .1 .1 .1 .1 .1 .1 .0 ∙ l .inv .7)
+    let o : l .here .over ≡ false = not-true _ (c .before .before .before .before .before .before .before .before .before .before .before .before .before .before .before .before .before .before .before .before .before .before .before .before .before .before .if1 .taken) in
+    let g : BlockRead (l .here) (l .block) (f .last .0) (f .result) = record { goes = o; room = goes-room (l .inv .0) o (omega (arith, l .inv .5, c .before .before .before .before .before .before .before .before .before .before .before .before .before .before .before .before .before .before .before .before .before .before .before .before .before .before .before .before .before .before .before .before .before .before .before .before .before .before .pre .bytes)); refills = f .ensures; same = f .kept .0 } in
+    (runs-more (l .inv .0) _ (f .last .0) _ (r .result) (f .result) g (r .ensures) (c .before .before .before .before .before .before .before .before .before .before .before .before .before .before .before .before .before .before .before .before .before .before .before .before .before .before .before .before .loop-test .taken), r .kept .1 .1 .0 ∙ l .inv .1, r .kept .1 .1 .1 .0 ∙ l .inv .2, r .kept .1 .1 .1 .1 .0 ∙ l .inv .3, r .kept .1 .1 .1 .1 .1 .0 ∙ l .inv .4, r .kept .1 .1 .1 .1 .1 .1 .0 ∙ (f .kept .0 ∙ l .inv .5), r .kept .1 .1 .1 .1 .1 .1 .1 .0 ∙ l .inv .6, r .kept .1 .1 .1 .1 .1 .1 .1 .1 .0 ∙ l .inv .7)
 
 same-length : tie.Need-same-length Inv-loop μ-loop
 same-length c = c .before .before .before .loop .inv .1
@@ -66,7 +73,7 @@ same-length-7 : tie.Need-same-length-7 Inv-loop μ-loop
 same-length-7 c = c .before .before .before .loop .inv .7
 
 returns : tie.Need-returns Inv-loop μ-loop
-returns c = runs-ran _ _ _ (c .before .before .before .loop .block) (c .before .before .before .loop .t) (c .before .before .before .loop .inv .0)
+returns c = runs-ran (c .before .before .before .loop .inv .0) (inl (not-false _ (c .if1 .left)))
 
 same-length-8 : tie.Need-same-length-8 Inv-loop μ-loop
 same-length-8 c = c .before .loop .inv .1
@@ -90,7 +97,7 @@ same-length-14 : tie.Need-same-length-14 Inv-loop μ-loop
 same-length-14 c = c .before .loop .inv .7
 
 returns-2 : tie.Need-returns-2 Inv-loop μ-loop
-returns-2 c = runs-ran _ _ _ (c .before .loop .block) (c .before .loop .t) (c .before .loop .inv .0)
+returns-2 c = runs-ran (c .before .loop .inv .0) (inr (omega (arith, c .loop-test .left)))
 
 pub run-spec : {M : Type 1} → statement M
 run-spec =
@@ -101,8 +108,8 @@ run-spec =
     fresh-requires
     loop-holds
     refill-requires
-    one-turn-requires
-    sub-turns
+    take-block-requires
+    sub-refills
     loop-less
     loop-again
     same-length

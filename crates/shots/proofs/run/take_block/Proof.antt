@@ -1,10 +1,11 @@
--- `shots::run::one_turn` meets its contract. Assumes nothing.
-use Rattle.shots.proofs.Blocks.{turned, whole-part}
+-- `shots::run::take_block` meets its contract. Assumes nothing.
+use Rattle.shots.proofs.Blocks.{block-taken, whole-part}
+use Rattle.input.proofs.Moving.{error-back}
 use denote.Ref.{now}
 use mathlib.Core.Path.{refl}
 use borrow.Author.Needs.{needs}
-use Rattle.shots.proofs.run.one_turn.Statement.{statement}
-use Rattle.shots.proofs.run.one_turn.Tie as tie
+use Rattle.shots.proofs.run.take_block.Statement.{statement}
+use Rattle.shots.proofs.run.take_block.Tie as tie
 
 sub-one-block : tie.Need-sub-one-block
 sub-one-block c = search needs
@@ -45,10 +46,11 @@ same-length-7 c = c .before .before .before .before .before .before .before .bef
 returns : tie.Need-returns
 returns c =
     let s = c .before .before .before .before .before .before .before .before .before .before .before .before .before .before .before .before .before .before .before .before .before .before .before .before .before .before .before .before .before .before .before .before .before .before .before .before .before .before .before .before .before .before in
-    turned (s .args .t) _ _ (now (s .args .block)) _ (s .args .read) _ (c .before .before .before .before .before .before .before .before .before .before .before .before .before .before .before .before .before .before .before .before .before .before .before .one-block .result) (c .before .before .before .before .before .before .keep .result) (s .pre .0) (s .pre .1) (whole-part _ _ _ _ _ _ (now (s .args .block)) (s .args .read .end) _ _ (c .before .before .before .before .before .before .before .before .before .before .before .before .before .before .before .before .before .before .before .before .before .before .before .one-block .ensures)) (c .before .before .before .before .before .before .keep .ensures) _ _ (c .before .before .before .before .before .before .keep .kept .0) refl
+    let t = block-taken (s .args .here) _ _ (now (s .args .block)) _ (s .args .read) _ (c .before .before .before .before .before .before .before .before .before .before .before .before .before .before .before .before .before .before .before .before .before .before .before .one-block .result) (c .before .before .before .before .before .before .keep .result) (s .pre .0) (s .pre .1) (s .pre .2) (whole-part _ _ _ _ _ _ (now (s .args .block)) (s .args .read .end) _ _ (c .before .before .before .before .before .before .before .before .before .before .before .before .before .before .before .before .before .before .before .before .before .before .before .one-block .ensures)) (c .before .before .before .before .before .before .keep .ensures) (c .before .before .before .before .before .before .keep .kept .0) in
+    record { sent = t .0; held = t .1; left = t .2; ended = refl; over = refl; error = error-back (s .args .read .error) (c .struct-told .given .1 .1 .0 .1) }
 
-pub one-turn-spec : {M : Type 1} → statement M
-one-turn-spec =
+pub take-block-spec : {M : Type 1} → statement M
+take-block-spec =
     tie.close
     (tie.spec
     sub-one-block
