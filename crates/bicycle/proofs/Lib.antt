@@ -1,3 +1,5 @@
 pub mod Grid
 pub mod Sorting
 pub mod Rows
+pub mod Loading
+pub mod Law

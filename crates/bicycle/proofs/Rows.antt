@@ -224,7 +224,7 @@ module _ (g : Bicycle) (v : Accepted g) (p q : ℕ) (here : p < places g) where
 ----------------------------------------------------------------------
 -- All rows
 
-each-all : (P : Row → Type 0) (row : ℕ → Row) (i n : ℕ) → ((p : ℕ) → p < i + n → P (row p)) → All P (each row i n)
+pub each-all : (P : Row → Type 0) (row : ℕ → Row) (i n : ℕ) → ((p : ℕ) → p < i + n → P (row p)) → All P (each row i n)
 each-all P row i zero f = tt
 each-all P row i (suc n) f = (f i (omega arith), each-all P row (suc i) n (λ p h. f p (omega arith)))
 

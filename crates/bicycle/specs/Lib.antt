@@ -1,1 +1,2 @@
 pub mod Bicycle
+pub mod Laws
