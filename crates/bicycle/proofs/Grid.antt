@@ -117,3 +117,9 @@ module _ (g : Bicycle) (grid : Grid g) where
       iff-eq (eqb (forward g p t) (backward g q u)) (eqb (forward g p u) (backward g q t))
       (λ e. eq-eqb _ _ (forward-exchange p q t u t-in u-in (eqb-true _ _ e)))
       (λ e. eq-eqb _ _ (forward-exchange p q u t u-in t-in (eqb-true _ _ e)))
+
+-- In plain numbers.
+pub within : (l m i j : ℕ) → 0 < l → 0 < m → i % l * m + j % m < l * m
+within l m i j h k =
+    let low = mod-lt i h in
+    omega (arith, mod-lt j k, suc-mul (i % l) m, mul-le-mul-right {m = suc (i % l)} {n = l} m low)

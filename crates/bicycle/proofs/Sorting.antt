@@ -6,7 +6,7 @@ use Prim.Native.Nat.{ℕ, suc, _<_, _≤_}
 use native.Mathlib.Omega.{arith}
 use lib.Dec.{eqb, leb, ltb}
 use lib.ListN.{length}
-use borrow.Author.Tests.{leb-true, leb-false, le-leb, lt-ltb, ltb-true, eqb-false}
+use borrow.Author.Tests.{leb-true, leb-false, le-leb, lt-leb, lt-ltb, eqb-false}
 use Rattle.binary.specs.Bits.{_⊕_}
 use Rattle.binary.specs.Meaning.{Qubits, Row, All, has, odd}
 use Rattle.binary.proofs.Bits.{bit, never, and-in, and-out, or-false, ⊕-left-comm}
@@ -76,3 +76,19 @@ length-sorted (q ∷ qs) = length-insert q (sorted qs) ∙ ap suc (length-sorted
     length-insert : (q : ℕ) (ps : List ℕ) → length (insert q ps) ≡ suc (length ps)
     length-insert q [] = refl
     length-insert q (p ∷ ps) = bit (leb q p) (λ e. rw e) (λ e. rw e (ap suc (length-insert q ps)))
+
+----------------------------------------------------------------------
+-- Three numbers
+
+module _ (x l h : ℕ) (low : l ≤ h) where
+  pub first-of-three : x ≤ l → x ∷ l ∷ h ∷ [] ≡ sorted (x ∷ l ∷ h ∷ [])
+  first-of-three i = rw (le-leb l h low, le-leb x l i)
+
+  pub second-of-three : l < x → x ≤ h → l ∷ x ∷ h ∷ [] ≡ sorted (x ∷ l ∷ h ∷ [])
+  second-of-three i j = rw (le-leb l h low, lt-leb x l i, le-leb x h j)
+
+  pub third-of-three : l < x → h < x → l ∷ h ∷ x ∷ [] ≡ sorted (x ∷ l ∷ h ∷ [])
+  third-of-three i j = rw (le-leb l h low, lt-leb x l i, lt-leb x h j)
+
+pub exchanged : (x y z : ℕ) → z < y → sorted (x ∷ z ∷ y ∷ []) ≡ sorted (x ∷ y ∷ z ∷ [])
+exchanged x y z h = let e : insert z (y ∷ []) ≡ insert y (z ∷ []) = rw (le-leb z y (omega arith), lt-leb y z h) in ap (insert x) e

@@ -1,6 +1,6 @@
 -- Bicycle codes from their terms (document 02, request c).
 --   place         the number of a grid place
---   forward       a place moved by a term; backward: moved back
+--   moved         a place moved so far; forward: by a term, backward: back by it
 --   xHolds        the qubits of an X row, in the rule's order; zHolds: of a Z row
 --   sorted        numbers in ascending order
 --   xRow          an X row, its six qubits ascending; zRow: a Z row
@@ -38,12 +38,17 @@ place g i j = i * g .m + j
 abbrev pub places : Bicycle → ℕ
 places g = g .l * g .m
 
--- Sums and differences are modulo l and m. Of place number p, (p / m, p % m), and a term (a, b).
-unfoldable pub forward : Bicycle → ℕ → Term → ℕ
-forward g p t = place g ((p / g .m + t .a) % g .l) ((p % g .m + t .b) % g .m)
+-- Place number p is (p / m, p % m). Sums are modulo l and m.
+abbrev pub moved : Bicycle → ℕ → ℕ → ℕ → ℕ
+moved g p a b = place g ((p / g .m + a) % g .l) ((p % g .m + b) % g .m)
 
+-- (i + a, j + b) of place (i, j) and a term (a, b).
+unfoldable pub forward : Bicycle → ℕ → Term → ℕ
+forward g p t = moved g p (t .a) (t .b)
+
+-- (i − a, j − b): differences too are modulo l and m.
 unfoldable pub backward : Bicycle → ℕ → Term → ℕ
-backward g p t = place g ((p / g .m + (g .l - t .a)) % g .l) ((p % g .m + (g .m - t .b)) % g .m)
+backward g p t = moved g p (g .l - t .a) (g .m - t .b)
 
 -- The right block is l × m higher.
 abbrev pub onRight : Bicycle → ℕ → ℕ

@@ -1,2 +1,3 @@
 pub mod Bicycle
 pub mod Laws
+pub mod Writing

@@ -1,4 +1,13 @@
 // Bicycle codes from their sizes and terms (document 02, request c).
+ghost use mathlib.Core.Path.{_≡_};
+ghost use mathlib.Core.Bool.{_||_};
+ghost use mathlib.Core.List.{[], _∷_};
+ghost use Prim.Native.Nat.{_+_, _*_, _/_, _%_, _≤_, _<_};
+ghost use lib.Dec.{ltb};
+ghost use lib.ListN.{length, getD};
+ghost use Rattle.lists.specs.Filled.{Filled};
+ghost use Rattle.bicycle.specs.Bicycle.{places, forward, backward, sorted, grid?, outside?, bad?, term?, short?, flatRows, Writes};
+ghost use Rattle.bicycle.specs.Writing.{three, Small, shifted, backOf, back, sixOf, rowOf, RowPut};
 
 // A term (a, b).
 pub struct Term {
@@ -32,4 +41,95 @@ pub enum BicycleRefusal {
 pub enum BicycleAnswer {
     Refused(BicycleRefusal),
     Written,
+}
+
+// Three numbers in ascending order.
+struct Three {
+    low: u16,
+    mid: u16,
+    high: u16,
+}
+
+// A number put to its place beside two that ascend.
+fn insert(x: u16, low: u16, high: u16) -> Three
+    requires { ⌜ low ≤ high ⌝ }
+    ensures { λ r. ⌜ three r ≡ sorted (x ∷ low ∷ high ∷ []) ⌝ }
+{
+    if x <= low {
+        return Three {
+            low: x,
+            mid: low,
+            high: high,
+        };
+    }
+    if x <= high {
+        return Three {
+            low: low,
+            mid: x,
+            high: high,
+        };
+    }
+    Three {
+        low: low,
+        mid: high,
+        high: x,
+    }
+}
+
+// Three numbers put in ascending order.
+fn sort(x: u16, y: u16, z: u16) -> Three
+    ensures { λ r. ⌜ three r ≡ sorted (x ∷ y ∷ z ∷ []) ⌝ }
+{
+    if y <= z {
+        return insert(x, y, z);
+    }
+    insert(x, z, y)
+}
+
+// A place of a grid of l times m moved by a and b.
+fn moved(l: usize, m: usize, p: usize, a: usize, b: usize) -> u16
+    requires { ⌜ (0 < l) × (0 < m) × (l * m ≤ 512) × (p < 512) × (a < 65536) × (b < 65536) ⌝ }
+    ensures { λ r. ⌜ r ≡ ((p / m + a) % l) * m + (p % m + b) % m ⌝ }
+{
+    let i = (p / m + a) % l;
+    let j = (p % m + b) % m;
+    (i * m + j) as u16
+}
+
+// A place moved by three terms, the three places ascending.
+fn shifted(l: usize, m: usize, p: usize, t: Terms) -> Three
+    requires { ⌜ Small l m × (p < 512) ⌝ }
+    ensures { λ r. ⌜ three r ≡ shifted l m p t ⌝ }
+{
+    let one = t.p;
+    let two = t.q;
+    let last = t.r;
+    let x = moved(l, m, p, one.a as usize, one.b as usize);
+    let y = moved(l, m, p, two.a as usize, two.b as usize);
+    let z = moved(l, m, p, last.a as usize, last.b as usize);
+    sort(x, y, z)
+}
+
+// The term that moves a place back.
+fn back_of(l: u16, m: u16, t: Term) -> Term
+    requires { ⌜ (t .a ≤ l) × (t .b ≤ m) ⌝ }
+    ensures { λ r. ⌜ r ≡ backOf l m t ⌝ }
+{
+    Term {
+        a: l - t.a,
+        b: m - t.b,
+    }
+}
+
+// A row's six numbers written from an element on, those of the right block so much higher.
+fn put_row(rows: &mut [u16], at: usize, lift: u16, left: Three, right: Three)
+    requires { ⌜ (at + 6 ≤ length (now rows)) × (lift ≤ 512) × (right .low < 512) × (right .mid < 512) × (right .high < 512) ⌝ }
+    ensures { λ _. ⌜ RowPut at (sixOf lift left right) (now (rows .entry)) (now (rows .exit)) ⌝ }
+{
+    rows[at] = left.low;
+    rows[at + 1] = left.mid;
+    rows[at + 2] = left.high;
+    rows[at + 3] = lift + right.low;
+    rows[at + 4] = lift + right.mid;
+    rows[at + 5] = lift + right.high;
 }
