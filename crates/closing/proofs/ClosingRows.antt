@@ -15,8 +15,8 @@ use Rattle.forms.specs.declared.Taken.{Taken}
 use Rattle.forms.specs.declared.Taken.the-variants.{Failed, Live}
 use Rattle.machine.specs.Machine.{Forms, put, part, closed?, bind, takeIf, takeUpAll}
 use Rattle.forms.specs.Forms.{withLive, Topped, TakenAs}
-use Rattle.scans.specs.Rows.{RowLists, rowChecks}
-use Rattle.scans.proofs.Checks.{from, here, was-read, from-all, from-none}
+use Rattle.scans.specs.Rows.{RowLists, checkIn, readIn?, rowChecks}
+use Rattle.scans.proofs.Checks.{from, from-all, from-none}
 use Rattle.kept.specs.Kept.{rowIn, Lowered}
 use Rattle.kept.proofs.Lowering.{Lowering, Given, on-row, lowering-pass, lowering-none, on-it, number-is, rows-on, lowering-row, lowering-end}
 use Rattle.closing.specs.Closing.{closedAt?, TookIf, TakenRows, ClosingRows, fits?, fitting, ClosedRows}
@@ -57,7 +57,7 @@ module _ (n : ℕ) (c : RowLists) (p live : ℕ) (o : Qubits) (forms₀ work₀ 
   pass i i′ left forms work same s a b none-on =
       let e : i + (i′ - i) ≡ i′ = omega arith in
       record {
-        so = sym (from-passed c test (withLive n forms left) i (i′ - i) (omega arith) (λ j l m. none-has (was-read c j) (here c j .row) p (closed? o′ (here c j)) (off j l (omega arith)))
+        so = sym (from-passed c test (withLive n forms left) i (i′ - i) (omega arith) (λ j l m. none-has (readIn? c j) (checkIn c j .row) p (closed? o′ (checkIn c j)) (off j l (omega arith)))
             ∙ ap (λ (k : ℕ). takeUpAll test (from c k) (withLive n forms left)) e) ∙ s .so;
         topped = s .topped;
         lowering = lowering-pass n c p o work₀ small few (g .given) i i′ work same (s .lowering) a b none-on;
@@ -79,18 +79,18 @@ module _ (n : ℕ) (c : RowLists) (p live : ℕ) (o : Qubits) (forms₀ work₀ 
   module _ (i left : ℕ) (forms work : List ℕ) (same : Rows work) (s : Closing n c p live o forms₀ i left forms work) (h : i < c .count) (found : inSet work p i ≡ true)
       (long : 9216 ≤ length work) (work′ : List ℕ) (number : ℕ) (low : Lowered i work work′ number) where
     -- The row closed if none is left.
-    closes : (was-read c i && test (here c i)) ≡ eqb number 0
+    closes : (readIn? c i && test (checkIn c i)) ≡ eqb number 0
     unfolding closedAt?
     closes =
         let it = on-it n c p o work₀ small few (g .given) i work same (s .lowering) h found long work′ number low in
-        rw (it .0, it .1, number-is n c p o work₀ small few (g .given) i work same (s .lowering) h found long work′ number low) (sym (length-empty (part o′ (here c i .row))))
+        rw (it .0, it .1, number-is n c p o work₀ small few (g .given) i work same (s .lowering) h found long work′ number low) (sym (length-empty (part o′ (checkIn c i .row))))
 
-    module _ (told : Bool) (tells : told ≡ eqb number 0) (room : 4 * n ≤ length forms) (t : Taken) (forms′ : List ℕ) (took : TookIf n told (here c i) left forms forms′ t) where
+    module _ (told : Bool) (tells : told ≡ eqb number 0) (room : 4 * n ≤ length forms) (t : Taken) (forms′ : List ℕ) (took : TookIf n told (checkIn c i) left forms forms′ t) where
       abbrev row-step : Option Forms
-      row-step = takeIf (was-read c i && test (here c i)) (withLive n forms left) (here c i)
+      row-step = takeIf (readIn? c i && test (checkIn c i)) (withLive n forms left) (checkIn c i)
 
       row-took : TakenAs n forms′ row-step t
-      row-took = subst (λ (b : Bool). TakenAs n forms′ (takeIf b (withLive n forms left) (here c i)) t) (tells ∙ sym closes) (took .taken room (s .topped))
+      row-took = subst (λ (b : Bool). TakenAs n forms′ (takeIf b (withLive n forms left) (checkIn c i)) t) (tells ∙ sym closes) (took .taken room (s .topped))
 
       whole : bind row-step (takeUpAll test (from c (i + 1))) ≡ takeUpAll test (rowChecks c) (withLive n forms₀ live)
       whole = sym (from-next c test i h (withLive n forms left)) ∙ s .so
@@ -165,7 +165,7 @@ module _ (n : ℕ) (c : RowLists) (p live : ℕ) (forms₀ work₀ : List ℕ) (
 
   module _ (i left : ℕ) (forms work : List ℕ) (a : ClosingAll n c p live forms₀ work₀ i left forms work) (h : i < c .count) (long : 9216 ≤ length work₀) (room : 4 * n ≤ length forms₀)
       (work′ : List ℕ) (number : ℕ) (low : Lowered i work work′ number) (told : Bool) (tells : told ≡ eqb number 0) (t : Taken) (forms′ : List ℕ)
-      (took : TookIf n told (here c i) left forms forms′ t) where
+      (took : TookIf n told (checkIn c i) left forms forms′ t) where
     stays : (i′ left′ : ℕ) → i′ ≤ c .count → (i′ < c .count → inSet work′ p i′ ≡ true)
         → ((o : Qubits) → Begun n c p live o forms₀ work₀ → Closing n c p live o forms₀ i′ left′ forms′ work′) → ClosingAll n c p live forms₀ work₀ i′ left′ forms′ work′
     stays i′ left′ w f s =

@@ -15,7 +15,7 @@ use lib.ListN.{length, getD}
 use Rattle.binary.specs.Bits.{_⊕_}
 use Rattle.binary.specs.Meaning.{Qubits, has}
 use Rattle.bitsets.specs.Bitsets.{inSet, Flipped}
-use Rattle.code.proofs.Order.{Distinct}
+use Rattle.code.specs.Tests.{Distinct}
 use Rattle.incidence.specs.Incidence.{numberOn, rowsOn}
 use Rattle.machine.specs.Machine.{isOpen, part, put}
 use Rattle.machine.specs.Lists.{view}

@@ -19,7 +19,7 @@ use lib.Dec.{eqb, ltb}
 use lib.ListN.{length, getD}
 use Rattle.binary.specs.Bits.{_⊕_, tally}
 use Rattle.binary.specs.Meaning.{Qubits, has}
-use Rattle.binary.proofs.NumberBits.{numberOf}
+use Rattle.binary.specs.Words.{numberOf}
 use Rattle.bitsets.specs.Bitsets.{inSet}
 use Rattle.machine.specs.Machine.{put, part}
 use Rattle.scans.specs.Rows.{RowLists, readRow, GoodRows}

@@ -6,9 +6,10 @@ use native.Mathlib.Omega.{arith}
 use lib.Dec.{eqb}
 use Rattle.binary.specs.Bits.{below}
 use Rattle.binary.specs.Meaning.{Qubits, Differ}
+use Rattle.binary.specs.Words.{numberOf}
 use Rattle.binary.proofs.Bits.{never}
 use Rattle.binary.proofs.WordBits.{bit-zero}
-use Rattle.binary.proofs.NumberBits.{numberOf, number-few, number-bit, same-bits}
+use Rattle.binary.proofs.NumberBits.{number-few, number-bit, same-bits}
 use Rattle.machine.specs.declared.Word.{Word}
 use Rattle.machine.specs.declared.Word.the-variants.{Certain, Unsure, None, Spent, Stopped}
 use Rattle.machine.specs.Words.{finished?}

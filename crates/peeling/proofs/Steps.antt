@@ -19,9 +19,8 @@ use Rattle.machine.specs.Peeling.{peelStep, peeled, peelsAway}
 use Rattle.machine.proofs.Settling.{part-open}
 use Rattle.machine.proofs.Stages.{dangling-is, open-put}
 use Rattle.machine.proofs.Peeling.{peeled-plus, peeled-less, peeled-stays}
-use Rattle.scans.specs.Rows.{RowLists, rowsIn, rowChecks}
+use Rattle.scans.specs.Rows.{RowLists, rowsIn, checkIn, rowChecks}
 use Rattle.scans.specs.Scans.{OpenFrom, countMarks}
-use Rattle.scans.proofs.Checks.{here}
 use Rattle.scans.proofs.Scanning.{open-below, view-set, rest-set, some-open}
 use Rattle.kept.specs.Kept.{dangles?, Kept, Lowest, LoweredRows}
 use Rattle.kept.proofs.Same.{rows-same}
@@ -62,8 +61,8 @@ module _ (n : ℕ) (flat ends : List ℕ) (first count : ℕ) (old : Lists) (i :
         none-dangles = λ e lit ready. (dangling-none o (rows lit) (λ j l. known lit ready .1 j (omega arith)), refl);
       }
 
-  module _ (h : i < count) (row : List ℕ) (is : row ≡ here (rows []) i .row) (at : ℕ) (scan : OpenFrom o row 0 at) where
-    found : OpenFrom o (here (rows []) i .row) 0 at
+  module _ (h : i < count) (row : List ℕ) (is : row ≡ checkIn (rows []) i .row) (at : ℕ) (scan : OpenFrom o row 0 at) where
+    found : OpenFrom o (checkIn (rows []) i .row) 0 at
     found = subst (λ (x : List ℕ). OpenFrom o x 0 at) is scan
 
     -- A dangling row has an open qubit.
@@ -122,9 +121,9 @@ module _ (n : ℕ) (flat ends : List ℕ) (first count : ℕ) (old : Lists) (i :
               settles = λ e lit ready.
                   let k = known lit ready in
                   record {
-                    row = (p, here (rows lit) i);
+                    row = (p, checkIn (rows lit) i);
                     dangles = dangling-found o (rows lit) i h (k .0 h) (k .1) at found
-                        ∙ ap (λ (q : ℕ). some (q, here (rows lit) i)) (ap (λ (x : List ℕ). getD x at 0) (sym is) ∙ sym p-is);
+                        ∙ ap (λ (q : ℕ). some (q, checkIn (rows lit) i)) (ap (λ (x : List ℕ). getD x at 0) (sym is) ∙ sym p-is);
                     marks = marks-then;
                     ready = ready-then lit ready;
                   };

@@ -21,8 +21,7 @@ use Rattle.machine.specs.Lists.{view, formsOf, digit, lit?}
 use Rattle.machine.proofs.Settling.{side-top, part-open}
 use Rattle.machine.proofs.Stages.{open-put}
 use Rattle.forms.specs.Forms.{withLive}
-use Rattle.scans.specs.Rows.{RowLists, rowsIn, rowChecks}
-use Rattle.scans.proofs.Checks.{here, was-read}
+use Rattle.scans.specs.Rows.{RowLists, rowsIn, checkIn, readIn?, rowChecks}
 use Rattle.scans.proofs.Scanning.{open-read, open-below}
 use Rattle.kept.specs.Kept.{dangles?, Kept, Lowest}
 use Rattle.kept.proofs.Same.{kept-by}
@@ -64,58 +63,58 @@ module _ (n : ℕ) (c : RowLists) (old : Working) (r : ℕ) (low : Lowest (c .co
   none-dangles h = dangling-none o c (λ j l. known .1 j (omega arith))
 
   module _ (h : r < c .count) (size : n ≤ 1024) where
-    numbers : entryIn (old .work) r ≡ entryOf o x (here c r .row)
+    numbers : entryIn (old .work) r ≡ entryOf o x (checkIn c r .row)
     numbers = ready .tracks .entries r h ∙ ap (entryOf o x) (row-is o c r h (known .0 h) (known .1))
 
     -- The row's open qubit is its sum.
-    only-open : part o (here c r .row) ≡ getD (old .work) (9216 + r) 0 ∷ []
-    only-open = look (part o (here c r .row)) refl
+    only-open : part o (checkIn c r .row) ≡ getD (old .work) (9216 + r) 0 ∷ []
+    only-open = look (part o (checkIn c r .row)) refl
       where
-        one : length (part o (here c r .row)) ≡ 1
+        one : length (part o (checkIn c r .row)) ≡ 1
         one = sym (ap (λ (y : List ℕ). length (part o y)) (row-is o c r h (known .0 h) (known .1))) ∙ eqb-true _ 1 (known .0 h)
 
-        look : (l : List ℕ) → part o (here c r .row) ≡ l → part o (here c r .row) ≡ getD (old .work) (9216 + r) 0 ∷ []
+        look : (l : List ℕ) → part o (checkIn c r .row) ≡ l → part o (checkIn c r .row) ≡ getD (old .work) (9216 + r) 0 ∷ []
         look [] e = let z = one in absurd (omega (arith, rw e at z))
         look (q ∷ []) e =
-            let below = open-below n (old .marks) q (part-open o (here c r .row) q [] e) in
+            let below = open-below n (old .marks) q (part-open o (checkIn c r .row) q [] e) in
             let sum : getD (old .work) (9216 + r) 0 ≡ (q + 0) % 65536 = ap (λ (y : Entry). y .sum) numbers ∙ rw e in
             let same : q ≡ getD (old .work) (9216 + r) 0 = omega arith in
             e ∙ ap (λ (y : ℕ). y ∷ []) same
         look (q ∷ (s ∷ l)) e = let z = one in absurd (omega (arith, rw e at z))
 
-    module _ (p v : ℕ) (is-sum : p ≡ getD (old .work) (9216 + r) 0) (value : v ≡ (getD (old .work) (9728 + r) 0 % 2 + digit (here c r .lit)) % 2) (below : p < n) (is-open : o p ≡ true) where
-      found : dangling o (rowChecks c) ≡ some (p, here c r)
+    module _ (p v : ℕ) (is-sum : p ≡ getD (old .work) (9216 + r) 0) (value : v ≡ (getD (old .work) (9728 + r) 0 % 2 + digit (checkIn c r .lit)) % 2) (below : p < n) (is-open : o p ≡ true) where
+      found : dangling o (rowChecks c) ≡ some (p, checkIn c r)
       found = dangling-only o c r h (known .0 h) (known .1) p (only-open ∙ ap (λ (y : ℕ). y ∷ []) (sym is-sum))
 
-      side-is : side (withLive n (old .forms) 0) (here c r) ≡ (λ k. eqb v 1 && eqb k 0)
+      side-is : side (withLive n (old .forms) 0) (checkIn c r) ≡ (λ k. eqb v 1 && eqb k 0)
       side-is = fun-ext at
         where
-          at : (k : ℕ) → side (withLive n (old .forms) 0) (here c r) k ≡ (eqb v 1 && eqb k 0)
+          at : (k : ℕ) → side (withLive n (old .forms) 0) (checkIn c r) k ≡ (eqb v 1 && eqb k 0)
           at zero =
-              side-bit (odd x (here c r .row)) (here c r .lit)
-              ∙ ap (λ (y : ℕ). eqb y 1) (sym (value ∙ ap (λ (y : Entry). (y .parity % 2 + digit (here c r .lit)) % 2) numbers)) ∙ sym (&&-true (eqb v 1) refl)
-          at (suc k) = side-top (withLive n (old .forms) 0) (here c r) (suc k) (λ q. ready .topped q (suc k) (omega arith)) (omega arith) ∙ sym (ap (eqb v 1 &&_) (eqb·suc-zero k) ∙ &&-false (eqb v 1))
+              side-bit (odd x (checkIn c r .row)) (checkIn c r .lit)
+              ∙ ap (λ (y : ℕ). eqb y 1) (sym (value ∙ ap (λ (y : Entry). (y .parity % 2 + digit (checkIn c r .lit)) % 2) numbers)) ∙ sym (&&-true (eqb v 1) refl)
+          at (suc k) = side-top (withLive n (old .forms) 0) (checkIn c r) (suc k) (λ q. ready .topped q (suc k) (omega arith)) (omega arith) ∙ sym (ap (eqb v 1 &&_) (eqb·suc-zero k) ∙ &&-false (eqb v 1))
 
       module _ (new : Working) (s : SettledAs n c p v old new) where
         abbrev mark : ℕ → ℕ
         mark = view n (old .marks)
 
         -- A row that this turn closed reads right: its side is 0.
-        still : (j : ℕ) → j < c .count → takeIf (was-read c j && closing mark (put p 2 mark) (here c j)) (withLive n (new .forms) 0) (here c j) ≡ some (withLive n (new .forms) 0)
+        still : (j : ℕ) → j < c .count → takeIf (readIn? c j && closing mark (put p 2 mark) (checkIn c j)) (withLive n (new .forms) 0) (checkIn c j) ≡ some (withLive n (new .forms) 0)
         unfolding closedAt?
         still j l =
-            bit (was-read c j && closing mark (put p 2 mark) (here c j))
-            (λ e. let z = and-out (was-read c j) (closing mark (put p 2 mark) (here c j)) e in
-            let y = and-out (has (here c j .row) p) (closed? (isOpen (put p 2 mark)) (here c j)) (sym (closing-test mark p 2 is-open refl (here c j)) ∙ z .1) in
-            let shut : closed? (put p false o) (here c j) ≡ true = ap (λ (f : Qubits). closed? f (here c j)) (sym (open-put p 2 mark refl)) ∙ y .1 in
-            rw e (ap (λ (b : Bool). cond ((here c j .lit && true) ⊕ b) none (some (withLive n (new .forms) 0))) (s .right j l (z .0) (y .0) shut) ∙ right (here c j .lit)))
+            bit (readIn? c j && closing mark (put p 2 mark) (checkIn c j))
+            (λ e. let z = and-out (readIn? c j) (closing mark (put p 2 mark) (checkIn c j)) e in
+            let y = and-out (has (checkIn c j .row) p) (closed? (isOpen (put p 2 mark)) (checkIn c j)) (sym (closing-test mark p 2 is-open refl (checkIn c j)) ∙ z .1) in
+            let shut : closed? (put p false o) (checkIn c j) ≡ true = ap (λ (f : Qubits). closed? f (checkIn c j)) (sym (open-put p 2 mark refl)) ∙ y .1 in
+            rw e (ap (λ (b : Bool). cond ((checkIn c j .lit && true) ⊕ b) none (some (withLive n (new .forms) 0))) (s .right j l (z .0) (y .0) shut) ∙ right (checkIn c j .lit)))
             (λ e. rw e)
           where
             right : (b : Bool) → cond ((b && true) ⊕ b) none (some (withLive n (new .forms) 0)) ≡ some (withLive n (new .forms) 0)
             right true = refl
             right false = refl
 
-        put-form : record { form = put p (side (withLive n (old .forms) 0) (here c r)) (formsOf n (old .forms)); live = 0 } ≡ withLive n (new .forms) 0
+        put-form : record { form = put p (side (withLive n (old .forms) 0) (checkIn c r)) (formsOf n (old .forms)); live = 0 } ≡ withLive n (new .forms) 0
         put-form = ap (λ (f : ℕ → Form). record { form = f; live = 0 }) (ap (λ (f : Form). put p f (formsOf n (old .forms))) side-is ∙ sym (s .forms))
 
         comes : (turns : ℕ) → turnBy n c (stateOf n (old .marks) (old .forms) 0 turns) ≡ on (stateOf n (new .marks) (new .forms) 0 (suc turns))

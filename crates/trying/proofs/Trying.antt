@@ -9,7 +9,7 @@ use native.Mathlib.Omega.{arith}
 use lib.Dec.{eqb, ltb, leb}
 use lib.ListN.{length, getD}
 use borrow.Author.Tests.{leb-true, lt-ltb, le-ltb}
-use Rattle.binary.specs.Meaning.{Qubits}
+use Rattle.binary.specs.Meaning.{Qubits, noQubit}
 use Rattle.binary.proofs.Bits.{never, and-out}
 use Rattle.binary.proofs.WordBits.{order}
 use Rattle.lists.specs.Cleared.{Cleared}
@@ -18,7 +18,6 @@ use Rattle.machine.specs.Machine.{Form, on, isOpen, blank, stage, freest, run}
 use Rattle.machine.specs.Lists.{view, formsOf}
 use Rattle.scans.specs.Rows.{RowLists, rowsIn, rowChecks, GoodRows}
 use Rattle.kept.specs.Kept.{Finds}
-use Rattle.filling.proofs.OpenBelow.{noQubit}
 use Rattle.closing.specs.Closing.{LitClosed}
 use Rattle.turns.specs.Turns.{Working, Stays, runFrom}
 use Rattle.turns.specs.Runs.{endOf}

@@ -22,9 +22,8 @@ use Rattle.machine.specs.Words.{finished}
 use Rattle.machine.specs.Machine.{isOpen, dangling, best}
 use Rattle.machine.specs.Lists.{view}
 use Rattle.machine.proofs.Guessing.{best-rule}
-use Rattle.scans.specs.Rows.{RowLists, rowChecks, GoodRows}
+use Rattle.scans.specs.Rows.{RowLists, checkIn, rowChecks, GoodRows}
 use Rattle.scans.specs.Scans.{OpenFrom}
-use Rattle.scans.proofs.Checks.{here}
 use Rattle.scans.proofs.Scanning.{open-below}
 use Rattle.kept.specs.Kept.{dangles?, Lowest}
 use Rattle.kept.proofs.Same.{kept-same, rows-same}
@@ -131,8 +130,8 @@ module _ (n : ℕ) (c : RowLists) (budget live : ℕ) (weighed : Bool) (old new 
   known : Ready n c live weighed old → (r < c .count → dangles? now-open c r ≡ true) × ((j : ℕ) → j < r → dangles? now-open c j ≡ false)
   known ready = low .lowest long now-open c refl (ready .kept)
 
-  module _ (h : r < c .count) (row : List ℕ) (is : row ≡ here c r .row) (i : ℕ) (first : OpenFrom now-open row 0 i) where
-    at : OpenFrom now-open (here c r .row) 0 i
+  module _ (h : r < c .count) (row : List ℕ) (is : row ≡ checkIn c r .row) (i : ℕ) (first : OpenFrom now-open row 0 i) where
+    at : OpenFrom now-open (checkIn c r .row) 0 i
     at = subst (λ (x : List ℕ). OpenFrom now-open x 0 i) is first
 
     -- A dangling row has an open qubit.
@@ -151,7 +150,7 @@ module _ (n : ℕ) (c : RowLists) (budget live : ℕ) (weighed : Bool) (old new 
           stays = v .stays;
           moves = λ good ready some-open less.
               let k = known ready in
-              let d : dangling now-open (rowChecks c) ≡ some (p, here c r) = dangling-found now-open c r h (k .0 h) (k .1) i at ∙ ap (λ (q : ℕ). some (q, here c r)) (ap (λ (x : List ℕ). getD x i 0) (sym is) ∙ sym e) in
+              let d : dangling now-open (rowChecks c) ≡ some (p, checkIn c r) = dangling-found now-open c r h (k .0 h) (k .1) i at ∙ ap (λ (q : ℕ). some (q, checkIn c r)) (ap (λ (x : List ℕ). getD x i 0) (sym is) ∙ sym e) in
               let w = v .turns good ready in
               (rw d, record { comes = λ turns. rw d (w .comes turns); ready = w .ready });
         }
