@@ -190,23 +190,27 @@ none-tallied n f e j h = not-out (f j) (below-out n _ (none-counted n f e) j h)
 
 module _ (count : ℕ) (work : List ℕ) where
   pub lowest-short : length work < 9216 → Lowest count work count
-  lowest-short h = record { within = omega arith; lowest = λ l. absurd (omega arith) }
+  lowest-short h = record { within = omega arith; by-total = λ z. refl; short = λ s. refl; lowest = λ l. absurd (omega arith) }
 
   pub lowest-none : getD work 8200 0 ≡ 0 → Lowest count work count
   lowest-none z =
       record {
         within = omega arith;
+        by-total = λ e. refl;
+        short = λ s. refl;
         lowest = λ l o c e k. (
           (λ h. absurd (omega arith)),
           (λ j h. none-tallied (c .count) (dangles? o c) (sym (k .total) ∙ z) j (omega arith)),
         );
       }
 
-  pub lowest-found : (r : ℕ) → NextIn work 1024 0 count r → Lowest count work r
-  lowest-found r f =
+  pub lowest-found : 9216 ≤ length work → (getD work 8200 0 ≡ 0 → ⊥) → (r : ℕ) → NextIn work 1024 0 count r → Lowest count work r
+  lowest-found long some r f =
       let w = f .within (omega arith) in
       record {
         within = w .1;
+        by-total = λ z. absurd (some z);
+        short = λ s. absurd (omega arith);
         lowest = λ l o c e k. (
           (λ h. sym (k .dangling r (omega arith)) ∙ f .found h),
           (λ j h. sym (k .dangling j (omega arith)) ∙ f .skipped j (omega arith) h),

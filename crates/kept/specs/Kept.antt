@@ -10,7 +10,7 @@
 --   Lowered    a row has an open qubit less; LoweredRows: each row on a qubit
 --   Raised     a row has an open qubit more
 --   Finds      the dangling rows found from the numbers; danglingWord: of up to 64 rows, as a word
---   Lowest     the lowest dangling row
+--   Lowest     the lowest dangling row; that none dangles is told by their number
 use mathlib.Core.Path.{_≡_}
 use mathlib.Core.Bool.{Bool, true, false, _&&_, cond}
 use mathlib.Core.List.{List}
@@ -117,8 +117,10 @@ pub record LoweredRows (p count : ℕ) (old new : List ℕ) : Type 0 where
   pub kept : 9216 ≤ length old → p < 1024 → count ≤ 512 → (n : ℕ) (c : RowLists) → c .count ≡ count → GoodRows n c
       → (o : Qubits) → o p ≡ true → Kept o c old → RowsOn o c old → Kept (put p false o) c new
 
--- The number of rows, where none dangles.
+-- The number of rows, where none dangles. That is answered from the total: where it is 0, whatever the other elements hold. A short list is answered so too.
 pub record Lowest (count : ℕ) (work : List ℕ) (r : ℕ) : Type 0 where
   pub within : r ≤ count
+  pub by-total : getD work 8200 0 ≡ 0 → r ≡ count
+  pub short : length work < 9216 → r ≡ count
   pub lowest : 9216 ≤ length work → (o : Qubits) (c : RowLists) → c .count ≡ count → Kept o c work
       → (r < count → dangles? o c r ≡ true) × ((j : ℕ) → j < r → dangles? o c j ≡ false)

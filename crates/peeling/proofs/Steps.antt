@@ -57,6 +57,7 @@ module _ (n : ℕ) (flat ends : List ℕ) (first count : ℕ) (old : Lists) (i :
   step-none h =
       record {
         stays = stays-same n old;
+        by-total = λ z. refl;
         settles = λ e. never e refl;
         none-dangles = λ e lit ready. (dangling-none o (rows lit) (λ j l. known lit ready .1 j (omega arith)), refl);
       }
@@ -70,6 +71,7 @@ module _ (n : ℕ) (flat ends : List ℕ) (first count : ℕ) (old : Lists) (i :
     step-shut l =
         record {
           stays = stays-same n old;
+          by-total = λ z. refl;
           settles = λ e. never e refl;
           none-dangles = λ e lit ready.
               let k = known lit ready in let m = found-inside o (rows lit) i h (k .0 h) (k .1) at found in let d = ap length is in absurd (omega arith);
@@ -118,6 +120,7 @@ module _ (n : ℕ) (flat ends : List ℕ) (first count : ℕ) (old : Lists) (i :
                 below = lowered .below;
                 past = lowered .past;
               };
+              by-total = λ z. let e = low .by-total z in absurd (omega arith);
               settles = λ e lit ready.
                   let k = known lit ready in
                   record {

@@ -2,7 +2,7 @@
 --   Lists    marks, and what is kept of the rows over them
 --   Ready    what is kept of the rows is right
 --   Stays    lengths, and elements beside those of the peeling, stay
---   OneStep  the lowest dangling row settles its open qubit
+--   OneStep  the lowest dangling row settles its open qubit; that none dangles is told by their number
 --   Peels    the promise: whether peeling leaves nothing, and the marks that it leaves
 use mathlib.Core.Path.{_≡_}
 use mathlib.Core.Bool.{Bool, true, false, not, _&&_, cond}
@@ -44,8 +44,10 @@ pub record Settles (n : ℕ) (c : RowLists) (old new : Lists) : Type 0 where
   pub marks : view n (new .marks) ≡ put (row .0) 2 (view n (old .marks))
   pub ready : Ready n c new
 
+-- That no row dangles is answered from the total that is kept: where it is 0, whatever the other elements hold.
 pub record OneStep (n : ℕ) (flat ends : List ℕ) (first count : ℕ) (old new : Lists) (r : Bool) : Type 0 where
   pub stays : Stays n old new
+  pub by-total : getD (old .work) 8200 0 ≡ 0 → r ≡ false
   pub settles : r ≡ true → (lit : List ℕ) → Ready n (rowsIn flat ends first count lit) old → Settles n (rowsIn flat ends first count lit) old new
   pub none-dangles : r ≡ false → (lit : List ℕ) → Ready n (rowsIn flat ends first count lit) old
       → (dangling (openIn n old) (rowChecks (rowsIn flat ends first count lit)) ≡ none) × (new .marks ≡ old .marks)

@@ -146,9 +146,13 @@ module _ (n : ℕ) (c : RowLists) (old : Working) (r : ℕ) (low : Lowest (c .co
 ----------------------------------------------------------------------
 -- The answer of a turn
 
+-- Where a row dangles the total is not 0.
+row-counts : (work : List ℕ) {count : ℕ} (r : ℕ) → Lowest count work r → r < count → getD work 8200 0 ≡ 0 → ⊥
+row-counts work r low h z = let e = low .by-total z in omega arith
+
 module _ (n : ℕ) (ends lit : List ℕ) (first count : ℕ) (old : Working) where
-  pub peels-unknown : (new : Working) → Stays n old new → ((q : ℕ) → reopened (getD (new .marks) q 0) ≡ reopened (getD (old .marks) q 0)) → Peels n ends lit first count old new Unknown
-  peels-unknown new s m = record { stays = s; marks = m; idle = λ e. let z : _≡_ {A = Bool} true false = cc in never refl z; no-row = λ e. let z : _≡_ {A = Bool} true false = cc in never refl z; made = λ e. let z : _≡_ {A = Bool} true false = cc in never refl z }
+  pub peels-unknown : (new : Working) (r : ℕ) → Lowest count (old .work) r → r < count → Stays n old new → ((q : ℕ) → reopened (getD (new .marks) q 0) ≡ reopened (getD (old .marks) q 0)) → Peels n ends lit first count old new Unknown
+  peels-unknown new r low h s m = record { stays = s; by-total = λ z. absurd (row-counts (old .work) r low h z); marks = m; idle = λ e. let z : _≡_ {A = Bool} true false = cc in never refl z; no-row = λ e. let z : _≡_ {A = Bool} true false = cc in never refl z; made = λ e. let z : _≡_ {A = Bool} true false = cc in never refl z }
 
   -- The mark of an open qubit is another, and opens again.
   pub settled-marks : (p v : ℕ) (new : Working) (told : Bool) → isOpen (view n (old .marks)) p ≡ true → QubitSettled n ends lit first count p v old new told
@@ -171,6 +175,7 @@ module _ (n : ℕ) (ends lit : List ℕ) (first count : ℕ) (old : Working) whe
     peels-none h =
         record {
           stays = stays-same n old;
+          by-total = λ z. refl;
           marks = λ q. refl;
           idle = λ e. refl;
           no-row = λ e flat good ready. none-dangles n (rowsIn flat ends first count lit) old r low long ready h;
@@ -183,6 +188,7 @@ module _ (n : ℕ) (ends lit : List ℕ) (first count : ℕ) (old : Working) whe
     peels-made h size p v lights is-sum value lit-bit is-open new told t s =
         record {
           stays = s .stays;
+          by-total = λ z. absurd (row-counts (old .work) r low h z);
           marks = settled-marks p v new told is-open s;
           idle = λ e. let z : _≡_ {A = Bool} true false = cc in never refl z;
           no-row = λ e. let z : _≡_ {A = Bool} true false = cc in never refl z;

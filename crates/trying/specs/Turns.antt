@@ -4,7 +4,7 @@
 --   ValuePut      a qubit's form becomes a plain bit
 --   QubitSettled  an open qubit is settled with a value
 --   reopened      a mark, that of a peeled qubit open again; isFixed: a mark is that of a fixed one
---   Peels         a turn of the machine, or that no row dangles
+--   Peels         a turn of the machine, or that no row dangles, told by the number of dangling rows
 --   Stuck         the turns led where no row dangles
 --   Reaches       what an answer tells of the half
 --   RunTries      the turns up to there
@@ -74,8 +74,10 @@ pub record PeeledAs (n : ℕ) (c : RowLists) (old new : Working) : Type 0 where
   pub fixed : (q : ℕ) → isFixed n (new .marks) q ≡ isFixed n (old .marks) q
   pub ready : Ready n c new
 
+-- That no row dangles is answered from the total that is kept: where it is 0, whatever the other elements hold.
 pub record Peels (n : ℕ) (ends lit : List ℕ) (first count : ℕ) (old new : Working) (r : Peel) : Type 0 where
   pub stays : Stays n old new
+  pub by-total : getD (old .work) 8200 0 ≡ 0 → r ≡ NoRow
   pub marks : (q : ℕ) → reopened (getD (new .marks) q 0) ≡ reopened (getD (old .marks) q 0)
   pub idle : r ≡ NoRow → new ≡ old
   pub no-row : r ≡ NoRow → (flat : List ℕ) → let c = rowsIn flat ends first count lit in GoodRows n c → Ready n c old

@@ -139,6 +139,7 @@ module _ (n : ℕ) (c : RowLists) (budget live : ℕ) (weighed : Bool) (old new 
     moved-shut l =
         record {
           stays = stays-same n old;
+          by-total = λ z s. refl;
           moves = λ good ready some-open less.
               let k = known ready in let m = found-inside now-open c r h (k .0 h) (k .1) i at in let e = ap length is in absurd (omega arith);
         }
@@ -148,6 +149,7 @@ module _ (n : ℕ) (c : RowLists) (budget live : ℕ) (weighed : Bool) (old new 
     moved-peel p e t v =
         record {
           stays = v .stays;
+          by-total = λ z s. let d = low .by-total z in absurd (omega arith);
           moves = λ good ready some-open less.
               let k = known ready in
               let d : dangling now-open (rowChecks c) ≡ some (p, checkIn c r) = dangling-found now-open c r h (k .0 h) (k .1) i at ∙ ap (λ (q : ℕ). some (q, checkIn c r)) (ap (λ (x : List ℕ). getD x i 0) (sym is) ∙ sym e) in
@@ -163,11 +165,12 @@ module _ (n : ℕ) (c : RowLists) (budget live : ℕ) (weighed : Bool) (old new 
     moved-spent l =
         record {
           stays = stays-same n old;
+          by-total = λ z s. refl;
           moves = λ good ready some-open less. let e : live ≡ budget = omega arith in (refl, rw (no-row ready) (subst (λ (k : ℕ). eqb live k ≡ true) e (eq-eqb live)));
         }
 
     pub moved-guess : live < budget → (m : Move) → Guessed n c live weighed old new m → Moved n c budget live weighed old new m
-    moved-guess l m v = record { stays = v .stays; moves = λ good ready some-open less. go good ready some-open m v }
+    moved-guess l m v = record { stays = v .stays; by-total = λ z s. absurd (omega arith); moves = λ good ready some-open less. go good ready some-open m v }
       where
         go : GoodRows n c → Ready n c live weighed old → below n (λ q. not (now-open q)) ≡ false → (m : Move) → Guessed n c live weighed old new m → MovedBy n c budget live old new m
         go good ready some-open Spent v = absurd (v .guesses good ready some-open (no-row ready))

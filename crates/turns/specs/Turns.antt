@@ -5,7 +5,7 @@
 --   Turns       of lists that are ready, the stage that a turn leads to, with lists that are ready again
 --   Turned      the same, and elements past n as they were, whatever the lists hold
 --   WeighedOnce the weights counted, unless they are kept
---   Guessed     a guess; Moved: a turn, or that the budget is spent
+--   Guessed     a guess; Moved: a turn, or that the budget is spent; that no row dangles is told by the number of dangling rows
 --   KeptOver    what is kept is a fresh count over the marks
 --   EndedAs     the lists and the answer are the end of a half
 use mathlib.Core.Path.{_≡_}
@@ -122,8 +122,10 @@ abbrev pub MovedBy : ℕ → RowLists → ℕ → ℕ → Working → Working �
 MovedBy n c budget live old new Spent = (new ≡ old) × (spent? n c budget live (old .marks) ≡ true)
 MovedBy n c budget live old new (Made t weighed) = (spent? n c budget live (old .marks) ≡ false) × Turns n c live weighed (turnBy n c) old new t
 
+-- That no row dangles is answered from the total that is kept: where it is 0, whatever the other elements hold.
 pub record Moved (n : ℕ) (c : RowLists) (budget live : ℕ) (weighed : Bool) (old new : Working) (m : Move) : Type 0 where
   pub stays : Stays n old new
+  pub by-total : getD (old .work) 8200 0 ≡ 0 → budget ≤ live → m ≡ Spent
   pub moves : GoodRows n c → Ready n c live weighed old → someOpen n (old .marks) → live ≤ budget → MovedBy n c budget live old new m
 
 ----------------------------------------------------------------------
