@@ -31,7 +31,7 @@ use Rattle.starting.specs.Starting.{openMark, fixedIn, Starts, Opens, Marks}
 use Rattle.starting.specs.Starting as starts
 use Rattle.starting.proofs.Marks.{listed-below, open-marks}
 use Rattle.turns.specs.declared.RunAnswer.{RunAnswer}
-use Rattle.turns.specs.declared.RunAnswer.the-variants.{Refused, Over}
+use Rattle.turns.specs.declared.RunAnswer.the-variants.{Over}
 use Rattle.turns.specs.Turns.{Working, Stays, isGuessed, runFrom}
 use Rattle.turns.specs.Runs.{endOf, restOf, Ran, Runs, GoesOn}
 use Rattle.turns.specs.Runs as runs
@@ -131,9 +131,6 @@ start-stays : (n : ℕ) (l : Working) (work′ marks′ : List ℕ) → length w
     → Stays n l (record { marks = marks′; forms = l .forms; work = work′ })
 start-stays n l work′ marks′ work-long marks-long rest =
     record { marks-long = marks-long; forms-long = refl; work-long = work-long; marks-rest = rest; forms-rest = λ i h. refl }
-
-pub not-refused : {C : Type 0} (a : RunAnswer) (r : HalfReport) → a ≡ Over r → a ≡ Refused → C
-not-refused a r i j = let z : _≡_ {A = ℕ} 0 1 = cc in absurd (omega arith)
 
 -- Sizes and lists that fit the decode fit the search.
 search-fits : (n lost other others work marks : ℕ) → n ≤ 1024 → others ≤ 512 → other ≤ 512 → 10240 ≤ work → n ≤ lost → n ≤ marks → starts.searchable? n lost other others work marks ≡ true

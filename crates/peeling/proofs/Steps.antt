@@ -11,7 +11,6 @@ use borrow.Author.Tests.{leb-true, le-leb, not-false}
 use Rattle.binary.specs.Bits.{below}
 use Rattle.binary.specs.Meaning.{Qubits, Check}
 use Rattle.binary.proofs.Bits.{bit, never, and-out, not-out, not-in, eq-eqb, eqb-eq, below-out, below-in, tally-few, none-counted}
-use Rattle.binary.proofs.Weights.{tally-up}
 use Rattle.machine.specs.Machine.{put, isOpen, dangling}
 use Rattle.machine.specs.Report.{marked}
 use Rattle.machine.specs.Lists.{view}
@@ -20,8 +19,8 @@ use Rattle.machine.proofs.Settling.{part-open}
 use Rattle.machine.proofs.Stages.{dangling-is, open-put}
 use Rattle.machine.proofs.Peeling.{peeled-plus, peeled-less, peeled-stays}
 use Rattle.scans.specs.Rows.{RowLists, rowsIn, checkIn, rowChecks}
-use Rattle.scans.specs.Scans.{OpenFrom, countMarks}
-use Rattle.scans.proofs.Scanning.{open-below, view-set, rest-set, some-open}
+use Rattle.scans.specs.Scans.{OpenFrom, countMarks, OneLess}
+use Rattle.scans.proofs.Scanning.{open-below, view-set, rest-set, some-open, one-less}
 use Rattle.kept.specs.Kept.{dangles?, Kept, Lowest, LoweredRows}
 use Rattle.kept.proofs.Same.{rows-same}
 use Rattle.kept.proofs.Dangling.{dangling-none, found-inside, dangling-found}
@@ -58,8 +57,10 @@ module _ (n : ℕ) (flat ends : List ℕ) (first count : ℕ) (old : Lists) (i :
       record {
         stays = stays-same n old;
         by-total = λ z. refl;
+        one = λ e. never e refl;
+        idle = λ e. refl;
         settles = λ e. never e refl;
-        none-dangles = λ e lit ready. (dangling-none o (rows lit) (λ j l. known lit ready .1 j (omega arith)), refl);
+        none-dangles = λ e lit ready. dangling-none o (rows lit) (λ j l. known lit ready .1 j (omega arith));
       }
 
   module _ (h : i < count) (row : List ℕ) (is : row ≡ checkIn (rows []) i .row) (at : ℕ) (scan : OpenFrom o row 0 at) where
@@ -72,6 +73,8 @@ module _ (n : ℕ) (flat ends : List ℕ) (first count : ℕ) (old : Lists) (i :
         record {
           stays = stays-same n old;
           by-total = λ z. refl;
+          one = λ e. never e refl;
+          idle = λ e. refl;
           settles = λ e. never e refl;
           none-dangles = λ e lit ready.
               let k = known lit ready in let m = found-inside o (rows lit) i h (k .0 h) (k .1) at found in let d = ap length is in absurd (omega arith);
@@ -121,6 +124,8 @@ module _ (n : ℕ) (flat ends : List ℕ) (first count : ℕ) (old : Lists) (i :
                 past = lowered .past;
               };
               by-total = λ z. let e = low .by-total z in absurd (omega arith);
+              one = λ e. one-less n (old .marks) p 2 p-open refl;
+              idle = λ e. never refl e;
               settles = λ e lit ready.
                   let k = known lit ready in
                   record {
@@ -201,11 +206,11 @@ module _ (n : ℕ) (c : RowLists) (old : Lists) where
           marks = marks-told same;
         }
 
-    pub peeling-next : 0 < left → (l′ : Lists) → Settles n c l l′ → Peeling n c old (k + 1) (left - 1) l′
-    peeling-next more l′ v =
+    pub peeling-next : 0 < left → (l′ : Lists) → OneLess n (l .marks) (l′ .marks) → Settles n c l l′ → Peeling n c old (k + 1) (left - 1) l′
+    peeling-next more l′ less v =
         record {
           steps = let z = s .steps in omega arith;
-          count = let z = fewer in let y = s .count in omega arith;
+          count = let y = s .count in omega (arith, less);
           opened = opened-then;
           marks = λ q. ap (λ (f : ℕ → ℕ). f q) (v .marks) ∙ bit (eqb (v .row .0) q) (λ e. rw e (at q (eqb-eq (v .row .0) q e))) (λ e. rw e (s .marks q ∙ off q e));
           ready = v .ready;
@@ -222,11 +227,6 @@ module _ (n : ℕ) (c : RowLists) (old : Lists) where
 
         shut-now : openIn n l′ (v .row .0) ≡ false
         shut-now = ap (λ (f : Qubits). f (v .row .0)) (opened-then ∙ next-is) ∙ rw (eq-eqb (v .row .0))
-
-        fewer : marked n (view n (l .marks)) 4 ≡ suc (marked n (view n (l′ .marks)) 4)
-        fewer =
-            tally-up n (v .row .0) (openIn n l′) (openIn n l) (open-below n (l .marks) (v .row .0) p-open) shut-now p-open
-            (λ q e. sym (ap (λ (f : Qubits). f q) (opened-then ∙ next-is) ∙ rw e))
 
         at : (q : ℕ) → v .row .0 ≡ q → 2 ≡ cond (o₀ q && not (peeled cs (k + 1) o₀ q)) 2 (view n (old .marks) q)
         at q e =
@@ -295,9 +295,8 @@ module _ (n : ℕ) (flat ends : List ℕ) (first count : ℕ) (old : Lists) wher
             refused = λ u. never fit u;
             told = λ u lit ready.
                 let z = g .so lit ready in
-                let w = step .none-dangles (not-out r e) lit (z .1 .ready) in
-                let t = peeling-stuck n (rowsIn flat ends first count lit) old (z .0) left l (z .1) more (w .0) in
-                record { answer = t .answer; marks = λ q. ap (λ (m : List ℕ). view n m q) (w .1) ∙ t .marks q };
+                let t = peeling-stuck n (rowsIn flat ends first count lit) old (z .0) left l (z .1) more (step .none-dangles (not-out r e) lit (z .1 .ready)) in
+                record { answer = t .answer; marks = λ q. ap (λ (x : Lists). view n (x .marks) q) (step .idle (not-out r e)) ∙ t .marks q };
           }
 
       pub goes-on : not r ≡ false → Goes n flat ends first count old (left - 1) l′
@@ -306,5 +305,5 @@ module _ (n : ℕ) (flat ends : List ℕ) (first count : ℕ) (old : Lists) wher
             stays = stays-on n old l l′ (g .stays) (step .stays);
             so = λ lit ready.
                 let z = g .so lit ready in
-                (z .0 + 1, peeling-next n (rowsIn flat ends first count lit) old (z .0) left l (z .1) more l′ (step .settles (not-false r e) lit (z .1 .ready)));
+                (z .0 + 1, peeling-next n (rowsIn flat ends first count lit) old (z .0) left l (z .1) more l′ (step .one (not-false r e)) (step .settles (not-false r e) lit (z .1 .ready)));
           }

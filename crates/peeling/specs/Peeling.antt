@@ -16,6 +16,7 @@ use Rattle.machine.specs.Machine.{put, isOpen, dangling}
 use Rattle.machine.specs.Lists.{view}
 use Rattle.machine.specs.Peeling.{peeled, peelsAway}
 use Rattle.scans.specs.Rows.{RowLists, rowsIn, rowChecks, GoodRows}
+use Rattle.scans.specs.Scans.{OneLess}
 use Rattle.kept.specs.Kept.{Kept, RowsOn}
 
 pub record Lists : Type 0 where
@@ -44,13 +45,16 @@ pub record Settles (n : ℕ) (c : RowLists) (old new : Lists) : Type 0 where
   pub marks : view n (new .marks) ≡ put (row .0) 2 (view n (old .marks))
   pub ready : Ready n c new
 
--- That no row dangles is answered from the total that is kept: where it is 0, whatever the other elements hold.
+-- Whatever the lists hold: a step settles one open qubit, and where none is made nothing is written. That no row dangles is answered from the total that is kept, where it
+-- is 0.
 pub record OneStep (n : ℕ) (flat ends : List ℕ) (first count : ℕ) (old new : Lists) (r : Bool) : Type 0 where
   pub stays : Stays n old new
   pub by-total : getD (old .work) 8200 0 ≡ 0 → r ≡ false
+  pub one : r ≡ true → OneLess n (old .marks) (new .marks)
+  pub idle : r ≡ false → new ≡ old
   pub settles : r ≡ true → (lit : List ℕ) → Ready n (rowsIn flat ends first count lit) old → Settles n (rowsIn flat ends first count lit) old new
   pub none-dangles : r ≡ false → (lit : List ℕ) → Ready n (rowsIn flat ends first count lit) old
-      → (dangling (openIn n old) (rowChecks (rowsIn flat ends first count lit)) ≡ none) × (new .marks ≡ old .marks)
+      → dangling (openIn n old) (rowChecks (rowsIn flat ends first count lit)) ≡ none
 
 unfoldable pub fits? : ℕ → ℕ → ℕ → ℕ → ℕ → Bool
 fits? n first count marks work = leb n 1024 && leb count 512 && leb (first + count) 1024 && leb n marks && leb 9216 work

@@ -1,28 +1,24 @@
 -- The lowest dangling row by the numbers of the rows gives its open qubit its side: a turn of the machine. Assumes nothing.
 use mathlib.Core.Path.{_≡_, refl, sym, ap, _∙_, fun-ext}
 use mathlib.Core.Bool.{Bool, true, false, _&&_, cond}
-use mathlib.Core.Logic.{_⊎_, inl, inr}
 use mathlib.Core.Option.{none, some}
 use mathlib.Core.List.{List, [], _∷_}
 use Prim.Native.Nat.{ℕ, zero, suc, _+_, _%_, _≤_, _<_}
 use native.Mathlib.Omega.{arith}
 use lib.Dec.{eqb, eqb·suc-zero}
-use lib.ListN.{length, getD, List·getD-eq-default}
+use lib.ListN.{length, getD}
 use lib.Seq.{getD-set-same, getD-set-other}
-use borrow.Author.Tests.{eqb-true, eqb-false, eq-eqb}
+use borrow.Author.Tests.{eqb-true, eqb-false}
 use Rattle.binary.specs.Bits.{_⊕_}
 use Rattle.binary.specs.Meaning.{Qubits, has, odd}
 use Rattle.binary.proofs.Bits.{bit, never, and-out, &&-true, &&-false}
-use Rattle.binary.proofs.Weights.{tally-up}
-use Rattle.binary.proofs.WordBits.{order}
 use Rattle.machine.specs.Machine.{Form, Forms, on, isOpen, put, part, closed?, side, dangling, takeIf, takeUpAll, closing, stage}
-use Rattle.machine.specs.Report.{marked}
 use Rattle.machine.specs.Lists.{view, formsOf, digit, lit?}
 use Rattle.machine.proofs.Settling.{side-top, part-open}
 use Rattle.machine.proofs.Stages.{open-put}
 use Rattle.forms.specs.Forms.{withLive}
 use Rattle.scans.specs.Rows.{RowLists, rowsIn, checkIn, readIn?, rowChecks}
-use Rattle.scans.proofs.Scanning.{open-read, open-below}
+use Rattle.scans.proofs.Scanning.{open-read, open-below, open-inside, one-less}
 use Rattle.kept.specs.Kept.{dangles?, Kept, Lowest}
 use Rattle.kept.proofs.Same.{kept-by}
 use Rattle.kept.proofs.Dangling.{dangling-none, row-is, dangling-only}
@@ -125,17 +121,10 @@ module _ (n : ℕ) (c : RowLists) (old : Working) (r : ℕ) (low : Lowest (c .co
             ∙ ap (stage (put p 2 mark) (suc turns)) (all-still c (closing mark (put p 2 mark)) (withLive n (new .forms) 0) still)
             ∙ ap (λ (m : ℕ → ℕ). on (record { mark = m; forms = withLive n (new .forms) 0; turns = suc turns })) (sym (s .marks)))
 
-        fewer : marked n (view n (old .marks)) 4 ≡ suc (marked n (view n (new .marks)) 4)
-        fewer = tally-up n p (isOpen (view n (new .marks))) o below (marks p ∙ rw (eq-eqb p p refl)) is-open (λ q e. sym (marks q ∙ rw e))
-          where
-            marks : (q : ℕ) → isOpen (view n (new .marks)) q ≡ isOpen (put p 2 mark) q
-            marks q = ap (λ (f : ℕ → ℕ). isOpen f q) (s .marks)
-
         peeled-as : PeeledAs n c old new
         peeled-as = record {
           dangles = rw found;
           comes = comes;
-          fewer = fewer;
           fixed = λ q. ap (λ (f : ℕ → ℕ). eqb (f q) 1) (s .marks) ∙ bit (eqb p q) (λ e. rw e (sym (was-open q (eqb-true p q e)))) (λ e. rw e);
           ready = s .ready;
         }
@@ -152,7 +141,7 @@ row-counts work r low h z = let e = low .by-total z in omega arith
 
 module _ (n : ℕ) (ends lit : List ℕ) (first count : ℕ) (old : Working) where
   pub peels-unknown : (new : Working) (r : ℕ) → Lowest count (old .work) r → r < count → Stays n old new → ((q : ℕ) → reopened (getD (new .marks) q 0) ≡ reopened (getD (old .marks) q 0)) → Peels n ends lit first count old new Unknown
-  peels-unknown new r low h s m = record { stays = s; by-total = λ z. absurd (row-counts (old .work) r low h z); marks = m; idle = λ e. let z : _≡_ {A = Bool} true false = cc in never refl z; no-row = λ e. let z : _≡_ {A = Bool} true false = cc in never refl z; made = λ e. let z : _≡_ {A = Bool} true false = cc in never refl z }
+  peels-unknown new r low h s m = record { stays = s; by-total = λ z. absurd (row-counts (old .work) r low h z); marks = m; by-set = λ e. let z : _≡_ {A = Bool} true false = cc in never refl z; one = λ e. let z : _≡_ {A = Bool} true false = cc in never refl z; idle = λ e. let z : _≡_ {A = Bool} true false = cc in never refl z; no-row = λ e. let z : _≡_ {A = Bool} true false = cc in never refl z; made = λ e. let z : _≡_ {A = Bool} true false = cc in never refl z }
 
   -- The mark of an open qubit is another, and opens again.
   pub settled-marks : (p v : ℕ) (new : Working) (told : Bool) → isOpen (view n (old .marks)) p ≡ true → QubitSettled n ends lit first count p v old new told
@@ -160,15 +149,11 @@ module _ (n : ℕ) (ends lit : List ℕ) (first count : ℕ) (old : Working) whe
   settled-marks p v new told is-open s q =
       rw (s .mark)
       (bit (eqb p q)
-      (λ e. let d = eqb-true p q e in rw (← d, was, getD-set-same (old .marks) p 2 0 (inside (order p (length (old .marks))))))
+      (λ e. let d = eqb-true p q e in rw (← d, was, getD-set-same (old .marks) p 2 0 (open-inside n (old .marks) p is-open)))
       (λ e. ap reopened (getD-set-other (old .marks) p q 2 0 (λ t. eqb-false p q e (sym t)))))
     where
       was : getD (old .marks) p 0 ≡ 4
       was = eqb-true (getD (old .marks) p 0) 4 (open-read n (old .marks) p (open-below n (old .marks) p is-open) ∙ is-open)
-
-      inside : (p < length (old .marks)) ⊎ (length (old .marks) ≤ p) → p < length (old .marks)
-      inside (inl h) = h
-      inside (inr h) = let z : _≡_ {A = ℕ} 0 4 = sym (List·getD-eq-default {A = ℕ} (old .marks) 0 h) ∙ was in absurd (omega arith)
 
   module _ (r : ℕ) (low : Lowest count (old .work) r) (long : 10240 ≤ length (old .work)) where
     pub peels-none : count ≤ r → Peels n ends lit first count old old NoRow
@@ -176,6 +161,8 @@ module _ (n : ℕ) (ends lit : List ℕ) (first count : ℕ) (old : Working) whe
         record {
           stays = stays-same n old;
           by-total = λ z. refl;
+          by-set = λ e f j l. low .by-set (omega arith) f .skipped j (omega arith) (omega arith);
+          one = λ e. let z : _≡_ {A = Bool} true false = cc in never refl z;
           marks = λ q. refl;
           idle = λ e. refl;
           no-row = λ e flat good ready. none-dangles n (rowsIn flat ends first count lit) old r low long ready h;
@@ -189,6 +176,8 @@ module _ (n : ℕ) (ends lit : List ℕ) (first count : ℕ) (old : Working) whe
         record {
           stays = s .stays;
           by-total = λ z. absurd (row-counts (old .work) r low h z);
+          by-set = λ e. let z : _≡_ {A = Bool} true false = cc in never refl z;
+          one = λ e. rw (s .mark) (one-less n (old .marks) p 2 is-open refl);
           marks = settled-marks p v new told is-open s;
           idle = λ e. let z : _≡_ {A = Bool} true false = cc in never refl z;
           no-row = λ e. let z : _≡_ {A = Bool} true false = cc in never refl z;

@@ -100,13 +100,14 @@ module _ (n : ℕ) (c : RowLists) (live : ℕ) (weighed : Bool) (old : Working) 
 
   module _ (x : Choice) (a : x ≡ choiceOf (best (lighter work′) n (isOpen (view n (old .marks))))) where
     pub guessed-none : x ≡ NoQubit → Guessed n c live weighed old mid Spent
-    guessed-none b = record { stays = stays-mid; guesses = λ good ready some-open none-dangles. choice-some n work′ (old .marks) x a b some-open }
+    guessed-none b = record { stays = stays-mid; one = (refl, refl); guesses = λ good ready some-open none-dangles. choice-some n work′ (old .marks) x a b some-open }
 
     pub guessed-made : (p : Qubit) → x ≡ Named p → (new : Working) (t : Taken) → Turned n c live true (guessBy n c (p .0)) mid new t → Guessed n c live weighed old new (Made t true)
     unfolding turnBy guessBy
     guessed-made p b new t v =
         record {
           stays = stays-on n old mid new stays-mid (v .stays);
+          one = v .one;
           guesses = λ good ready some-open none-dangles.
               let r = mid-ready good ready in
               let j = sym (weighed-rule n c (isOpen (view n (old .marks))) work′ few (r .weights refl)) ∙ named (best (lighter work′) n (isOpen (view n (old .marks)))) refl in
@@ -139,6 +140,7 @@ module _ (n : ℕ) (c : RowLists) (budget live : ℕ) (weighed : Bool) (old new 
     moved-shut l =
         record {
           stays = stays-same n old;
+          one = (refl, refl);
           by-total = λ z s. refl;
           moves = λ good ready some-open less.
               let k = known ready in let m = found-inside now-open c r h (k .0 h) (k .1) i at in let e = ap length is in absurd (omega arith);
@@ -149,6 +151,7 @@ module _ (n : ℕ) (c : RowLists) (budget live : ℕ) (weighed : Bool) (old new 
     moved-peel p e t v =
         record {
           stays = v .stays;
+          one = v .one;
           by-total = λ z s. let d = low .by-total z in absurd (omega arith);
           moves = λ good ready some-open less.
               let k = known ready in
@@ -165,12 +168,13 @@ module _ (n : ℕ) (c : RowLists) (budget live : ℕ) (weighed : Bool) (old new 
     moved-spent l =
         record {
           stays = stays-same n old;
+          one = (refl, refl);
           by-total = λ z s. refl;
           moves = λ good ready some-open less. let e : live ≡ budget = omega arith in (refl, rw (no-row ready) (subst (λ (k : ℕ). eqb live k ≡ true) e (eq-eqb live)));
         }
 
     pub moved-guess : live < budget → (m : Move) → Guessed n c live weighed old new m → Moved n c budget live weighed old new m
-    moved-guess l m v = record { stays = v .stays; by-total = λ z s. absurd (omega arith); moves = λ good ready some-open less. go good ready some-open m v }
+    moved-guess l m v = record { stays = v .stays; one = v .one; by-total = λ z s. absurd (omega arith); moves = λ good ready some-open less. go good ready some-open m v }
       where
         go : GoodRows n c → Ready n c live weighed old → below n (λ q. not (now-open q)) ≡ false → (m : Move) → Guessed n c live weighed old new m → MovedBy n c budget live old new m
         go good ready some-open Spent v = absurd (v .guesses good ready some-open (no-row ready))
