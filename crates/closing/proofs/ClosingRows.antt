@@ -19,7 +19,7 @@ use Rattle.scans.specs.Rows.{RowLists, checkIn, readIn?, rowChecks}
 use Rattle.scans.proofs.Checks.{from, from-all, from-none}
 use Rattle.kept.specs.Kept.{rowIn, Lowered}
 use Rattle.kept.proofs.Lowering.{Lowering, Given, on-row, lowering-pass, lowering-none, on-it, number-is, rows-on, lowering-row, lowering-end}
-use Rattle.closing.specs.Closing.{closedAt?, TookIf, TakenRows, ClosingRows, fits?, fitting, ClosedRows}
+use Rattle.closing.specs.Closing.{closedAt?, TookIf, TakenRows, ClosingRows, enough?, enoughIn?, ClosedRows}
 use Rattle.closing.proofs.TakingRows.{taken-none, taken-some, never-live, length-empty, from-next, from-passed}
 
 none-has : (b : Bool) (row : Row) (p : ℕ) (x : Bool) → has (cond b row []) p ≡ false → (b && (has row p && x)) ≡ false
@@ -201,10 +201,10 @@ module _ (n : ℕ) (c : RowLists) (p live : ℕ) (forms₀ work₀ : List ℕ) (
         (rw (a .forms-long) room) t forms′ took left′ e i′ f)
 
 ----------------------------------------------------------------------
--- Sizes and lists that fit, and the promise
+-- Sizes in range and lists long enough, and the promise
 
 -- What the loop asks.
-pub record Fitting (n : ℕ) (c : RowLists) (p : ℕ) (work forms : List ℕ) : Type 0 where
+pub record Enough (n : ℕ) (c : RowLists) (p : ℕ) (work forms : List ℕ) : Type 0 where
   pub forms-long : 4 * n ≤ length forms
   pub small : p < 1024
   pub few : c .count ≤ 512
@@ -212,10 +212,10 @@ pub record Fitting (n : ℕ) (c : RowLists) (p : ℕ) (work forms : List ℕ) : 
   pub lit : c .first + c .count ≤ length (c .lit)
   pub last : c .first + c .count ≤ 1024
 
--- Of sizes and lists that fit.
-pub closed-as : (n : ℕ) (c : RowLists) (p live : ℕ) (forms forms′ work work′ : List ℕ) (t : Taken) → Fitting n c p work forms → ClosedRows n c p live forms forms′ work work′ t
+-- Of sizes in range and lists long enough.
+pub closed-as : (n : ℕ) (c : RowLists) (p live : ℕ) (forms forms′ work work′ : List ℕ) (t : Taken) → Enough n c p work forms → ClosedRows n c p live forms forms′ work work′ t
     → ClosingRows n c p live forms forms′ work work′ t
-unfolding fits?
+unfolding enough?
 closed-as n c p live forms forms′ work work′ t f v =
     v .closes (rw (
       lt-ltb p 1024 (f .small),
@@ -226,14 +226,14 @@ closed-as n c p live forms forms′ work work′ t f v =
       le-leb (c .first + c .count) (length (c .lit)) (f .lit),
     ))
 
-module _ (n : ℕ) (c : RowLists) (p live : ℕ) (forms work : List ℕ) (told : Bool) (tells : told ≡ fitting n c p work forms) where
-  does-fit : not told ≡ false → fitting n c p work forms ≡ true
-  does-fit e = bit (fitting n c p work forms) (λ y. y) (λ y. never (ap not (tells ∙ y)) e)
+module _ (n : ℕ) (c : RowLists) (p live : ℕ) (forms work : List ℕ) (told : Bool) (tells : told ≡ enoughIn? n c p work forms) where
+  enough-told : not told ≡ false → enoughIn? n c p work forms ≡ true
+  enough-told e = bit (enoughIn? n c p work forms) (λ y. y) (λ y. never (ap not (tells ∙ y)) e)
 
-  pub fits-out : not told ≡ false → Fitting n c p work forms
-  unfolding fits?
-  fits-out e =
-      let a = and-out _ (leb (c .first + c .count) (length (c .lit))) (does-fit e) in
+  pub enough-out : not told ≡ false → Enough n c p work forms
+  unfolding enough?
+  enough-out e =
+      let a = and-out _ (leb (c .first + c .count) (length (c .lit))) (enough-told e) in
       let b = and-out _ (leb 10240 (length work)) (a .0) in
       let d = and-out _ (leb (4 * n) (length forms)) (b .0) in
       let f = and-out _ (leb (c .first + c .count) 1024) (d .0) in
@@ -251,4 +251,4 @@ module _ (n : ℕ) (c : RowLists) (p live : ℕ) (forms work : List ℕ) (told :
   closed-refused e forms′ work′ i j = record { refused = λ u. (refl, i, j); closes = λ u. never u (sym tells ∙ not-out told e) }
 
   pub closed-made : not told ≡ false → (forms′ work′ : List ℕ) (t : Taken) → ClosingRows n c p live forms forms′ work work′ t → ClosedRows n c p live forms forms′ work work′ t
-  closed-made e forms′ work′ t v = record { refused = λ u. never (does-fit e) u; closes = λ u. v }
+  closed-made e forms′ work′ t v = record { refused = λ u. never (enough-told e) u; closes = λ u. v }

@@ -26,7 +26,7 @@ use Rattle.halves.specs.declared.HalfAnswer.{HalfAnswer}
 use Rattle.halves.specs.declared.HalfAnswer.the-variants.{Refused, Decoded}
 use Rattle.halves.specs.Starts.{RowsObey}
 use Rattle.scans.specs.Rows.{RowLists, ListedIn}
-use Rattle.halves.specs.Decode.{Given, fitting, Decodes}
+use Rattle.halves.specs.Decode.{Given, enoughIn?, Decodes}
 use Rattle.records.specs.declared.Sizes.{Sizes}
 use Rattle.records.specs.Records.{Pauli, X, Z, lost, lit, unread}
 use Rattle.records.specs.History.{Code, sizesOf, Shot, half}
@@ -49,7 +49,7 @@ module _ (z : Sizes) (budget limit : ℕ) (l : Lists) (readings : List ℕ) (tol
     f : Decodes (givenOf Z z l budget limit) work′ work″ zed zed′ s
     f = subst (λ (k : List ℕ). Decodes (givenBy Z z l k budget limit) work′ work″ zed zed′ s) told then
 
-    z-fits : fitting (givenOf Z z l budget limit) (length work′) zed ≡ true
+    z-fits : enoughIn? (givenOf Z z l budget limit) (length work′) zed ≡ true
     z-fits = rw (d .work-long) (fit .z)
 
     pub z-decoded : {C : Type 0} → s ≡ Refused → C
@@ -71,8 +71,8 @@ module _ (z : Sizes) (budget limit : ℕ) (l : Lists) (readings : List ℕ) (tol
 -- Sizes and lists fit
 
 fits-so : (g : Given) (work : ℕ) (l : HalfLists) → g .n ≤ 1024 → g .count ≤ 512 → g .others ≤ 512 → g .first ≤ 512 → g .other ≤ 512
-    → 10240 ≤ work → g .n ≤ length (g .lost) → g .first + g .count ≤ length (g .lit) → LongHalf (g .n) l → fitting g work l ≡ true
-unfolding fitting
+    → 10240 ≤ work → g .n ≤ length (g .lost) → g .first + g .count ≤ length (g .lit) → LongHalf (g .n) l → enoughIn? g work l ≡ true
+unfolding enoughIn?
 fits-so g work l n count others first other long on lights three =
     and-in (and-in (and-in (and-in (and-in (and-in (and-in (and-in (and-in (and-in
     (le-leb _ _ n) (le-leb _ _ count)) (le-leb _ _ others)) (le-leb _ _ first)) (le-leb _ _ other))

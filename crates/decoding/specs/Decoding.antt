@@ -13,7 +13,7 @@ use Rattle.machine.specs.Report.{Shown, outcome}
 use Rattle.machine.specs.Lists.{Past, Shows, SameLengths}
 use Rattle.halves.specs.Lists.{halfOf}
 use Rattle.halves.specs.Starts.{RowsObey}
-use Rattle.halves.specs.Decode.{Given, ownRows, fitting}
+use Rattle.halves.specs.Decode.{Given, ownRows, enoughIn?}
 use Rattle.records.specs.declared.Sizes.{Sizes}
 use Rattle.records.specs.declared.State.{State}
 use Rattle.records.specs.declared.Report.{Report}
@@ -67,8 +67,8 @@ abbrev pub shownOf : Given → Shown
 shownOf g = outcome (halfOf (g .n) (g .flat) (g .ends) (g .lost) (g .lit) (g .first) (g .count) (g .other) (g .others)) (g .budget) (g .limit)
 
 pub record BothFit (sizes : Sizes) (budget limit : ℕ) (l : Lists) (work : ℕ) (six : Six) : Type 0 where
-  pub x : fitting (givenOf X sizes l budget limit) work (six .x) ≡ true
-  pub z : fitting (givenOf Z sizes l budget limit) work (six .z) ≡ true
+  pub x : enoughIn? (givenOf X sizes l budget limit) work (six .x) ≡ true
+  pub z : enoughIn? (givenOf Z sizes l budget limit) work (six .z) ≡ true
 
 -- The half's rows and the other kind's obey document 01.
 abbrev pub Obeying : Given → Type 0

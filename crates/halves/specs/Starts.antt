@@ -2,7 +2,7 @@
 --   halfIn      the half whose rows and readings, lost qubits and other kind's rows the lists hold
 --   RowsObey    the rows obey document 01
 --   HalfRan     the start and the turns of a half
---   fits?       whether sizes and lengths are such that the half is decoded
+--   enough?     whether sizes are in range and lists long enough for the decode
 --   HalfRuns    its start and its turns, where they are; otherwise nothing is written
 --   Finished    what the half leaves in its lists, by its word
 use mathlib.Core.Path.{_≡_}
@@ -47,13 +47,13 @@ pub record HalfRan (n : ℕ) (c : RowLists) (lost : List ℕ) (other others budg
   pub over : (r : HalfReport) × (a ≡ Over r) × (RowsObey n c other others → Ran n c new r (decoded (halfIn n c lost other others) budget limit))
 
 -- Sizes, and the lengths of the lists.
-unfoldable pub fits? : ℕ → ℕ → ℕ → ℕ → ℕ → ℕ → ℕ → ℕ → ℕ → ℕ → ℕ → Bool
-fits? n lost lit first count other others work marks forms correction =
+unfoldable pub enough? : ℕ → ℕ → ℕ → ℕ → ℕ → ℕ → ℕ → ℕ → ℕ → ℕ → ℕ → Bool
+enough? n lost lit first count other others work marks forms correction =
     leb n 1024 && leb count 512 && leb others 512 && leb first 512 && leb other 512
     && leb 10240 work && leb n lost && leb (first + count) lit && leb n marks && leb (4 * n) forms && leb n correction
 
 abbrev pub HalfRuns : ℕ → RowLists → List ℕ → ℕ → ℕ → ℕ → ℕ → Bool → Working → Working → RunAnswer → Type 0
-HalfRuns n c lost other others budget limit fit = Answers n c fit (RowsObey n c other others) (decoded (halfIn n c lost other others) budget limit)
+HalfRuns n c lost other others budget limit enough = Answers n c enough (RowsObey n c other others) (decoded (halfIn n c lost other others) budget limit)
 
 ----------------------------------------------------------------------
 -- What a half leaves

@@ -3,7 +3,7 @@ ghost use mathlib.Core.Path.{_≡_};
 ghost use Prim.Native.Nat.{_+_, _*_, _≤_};
 ghost use lib.ListN.{length};
 ghost use Rattle.machine.specs.Report.{none?};
-ghost use Rattle.halves.specs.Starts.{HalfRan, fits?, HalfRuns, Finished};
+ghost use Rattle.halves.specs.Starts.{HalfRan, enough?, HalfRuns, Finished};
 use crate::fills;
 use code::Rows;
 use machine::Word;
@@ -40,7 +40,7 @@ pub fn finish(n: usize, word: Word, marks: &mut [u8], forms: &mut [u64], correct
 }
 
 // Whether the sizes are document 01's and the lists long enough.
-fn fits(
+fn is_enough(
     n: u16,
     lost: &[u8],
     lit: &[u8],
@@ -51,7 +51,7 @@ fn fits(
     forms: &[u64],
     correction: &[u8],
 ) -> bool
-    ensures { λ r. ⌜ r ≡ fits? n (length (now (lost .entry))) (length (now (lit .entry))) (own .first .0) (own .count) (others .first .0) (others .count) (length (now (work .entry))) (length (now (marks .entry))) (length (now (forms .entry))) (length (now (correction .entry))) ⌝ }
+    ensures { λ r. ⌜ r ≡ enough? n (length (now (lost .entry))) (length (now (lit .entry))) (own .first .0) (own .count) (others .first .0) (others .count) (length (now (work .entry))) (length (now (marks .entry))) (length (now (forms .entry))) (length (now (correction .entry))) ⌝ }
 {
     let size = n as usize;
     let first = own.first;
@@ -159,7 +159,7 @@ fn start_and_turn(
     turns::run_turns(n, flat, ends, lit, own, budget, limit, work, marks, forms)
 }
 
-// The same where sizes and lists fit; otherwise nothing is written.
+// The same where sizes are in range and lists long enough; otherwise nothing is written.
 pub fn run_half(
     n: u16,
     flat: &[u16],
@@ -175,9 +175,9 @@ pub fn run_half(
     forms: &mut [u64],
     correction: &[u8],
 ) -> RunAnswer
-    ensures { λ r. ⌜ HalfRuns n (record { flat = now (flat .entry); ends = now (ends .entry); lit = now (lit .entry); first = own .first .0; count = own .count }) (now (lost .entry)) (others .first .0) (others .count) budget limit (fits? n (length (now (lost .entry))) (length (now (lit .entry))) (own .first .0) (own .count) (others .first .0) (others .count) (length (now (work .entry))) (length (now (marks .entry))) (length (now (forms .entry))) (length (now (correction .entry)))) (record { marks = now (marks .entry); forms = now (forms .entry); work = now (work .entry) }) (record { marks = now (marks .exit); forms = now (forms .exit); work = now (work .exit) }) r ⌝ }
+    ensures { λ r. ⌜ HalfRuns n (record { flat = now (flat .entry); ends = now (ends .entry); lit = now (lit .entry); first = own .first .0; count = own .count }) (now (lost .entry)) (others .first .0) (others .count) budget limit (enough? n (length (now (lost .entry))) (length (now (lit .entry))) (own .first .0) (own .count) (others .first .0) (others .count) (length (now (work .entry))) (length (now (marks .entry))) (length (now (forms .entry))) (length (now (correction .entry)))) (record { marks = now (marks .entry); forms = now (forms .entry); work = now (work .entry) }) (record { marks = now (marks .exit); forms = now (forms .exit); work = now (work .exit) }) r ⌝ }
 {
-    if !fits(n, lost, lit, own, others, work, marks, forms, correction) {
+    if !is_enough(n, lost, lit, own, others, work, marks, forms, correction) {
         return RunAnswer::Refused;
     }
     start_and_turn(

@@ -24,7 +24,7 @@ use Rattle.scans.proofs.Scanning.{open-below, view-set, rest-set, some-open, on
 use Rattle.kept.specs.Kept.{dangles?, Kept, Lowest, LoweredRows}
 use Rattle.kept.proofs.Same.{rows-same}
 use Rattle.kept.proofs.Dangling.{dangling-none, found-inside, dangling-found}
-use Rattle.peeling.specs.Peeling.{Lists, openIn, Ready, Stays, Settles, OneStep, fits?, Told, Peels}
+use Rattle.peeling.specs.Peeling.{Lists, openIn, Ready, Stays, Settles, OneStep, enough?, Told, Peels}
 
 pub stays-same : (n : ℕ) (l : Lists) → Stays n l l
 stays-same n l = record { marks-long = refl; work-long = refl; rest = λ q h. refl; below = λ k h. refl; past = λ k h. refl }
@@ -254,8 +254,8 @@ pub record Room (n first count long words : ℕ) : Type 0 where
   pub marks : n ≤ long
   pub work : 9216 ≤ words
 
-pub room : (n first count marks work : ℕ) → fits? n first count marks work ≡ true → Room n first count marks work
-unfolding fits?
+pub room : (n first count marks work : ℕ) → enough? n first count marks work ≡ true → Room n first count marks work
+unfolding enough?
 room n first count marks work t =
     let a = and-out (leb n 1024 && leb count 512 && leb (first + count) 1024 && leb n marks) (leb 9216 work) t in
     let b = and-out (leb n 1024 && leb count 512 && leb (first + count) 1024) (leb n marks) (a .0) in
@@ -263,27 +263,27 @@ room n first count marks work t =
     let e = and-out (leb n 1024) (leb count 512) (d .0) in
     record { size = leb-true _ _ (e .0); few = leb-true _ _ (e .1); last = leb-true _ _ (d .1); marks = leb-true _ _ (b .1); work = leb-true _ _ (a .1) }
 
-pub fits-told : (n first count marks work : ℕ) (told : Bool) → told ≡ fits? n first count marks work → not told ≡ false → fits? n first count marks work ≡ true
-fits-told n first count marks work told e t = bit (fits? n first count marks work) (λ y. y) (λ y. never (ap not (e ∙ y)) t)
+pub enough-told : (n first count marks work : ℕ) (told : Bool) → told ≡ enough? n first count marks work → not told ≡ false → enough? n first count marks work ≡ true
+enough-told n first count marks work told e t = bit (enough? n first count marks work) (λ y. y) (λ y. never (ap not (e ∙ y)) t)
 
 module _ (n : ℕ) (flat ends : List ℕ) (first count : ℕ) (old : Lists) where
-  abbrev fitting : Bool
-  fitting = fits? n first count (length (old .marks)) (length (old .work))
+  abbrev enoughHere : Bool
+  enoughHere = enough? n first count (length (old .marks)) (length (old .work))
 
-  pub peels-refused : (told : Bool) → told ≡ fitting → not told ≡ true → Peels n flat ends first count old old false
+  pub peels-refused : (told : Bool) → told ≡ enoughHere → not told ≡ true → Peels n flat ends first count old old false
   peels-refused told e t = record { stays = stays-same n old; refused = λ u. (refl, refl); told = λ u. never u (sym e ∙ not-out told t) }
 
-  pub goes-start : (left : ℕ) → fitting ≡ true → left ≡ countMarks n (old .marks) 4 → Goes n flat ends first count old left old
-  goes-start left fit e =
-      let counted : left ≡ marked n (view n (old .marks)) 4 = e ∙ rw (le-leb n (length (old .marks)) (room n first count (length (old .marks)) (length (old .work)) fit .marks)) in
+  pub goes-start : (left : ℕ) → enoughHere ≡ true → left ≡ countMarks n (old .marks) 4 → Goes n flat ends first count old left old
+  goes-start left enough e =
+      let counted : left ≡ marked n (view n (old .marks)) 4 = e ∙ rw (le-leb n (length (old .marks)) (room n first count (length (old .marks)) (length (old .work)) enough .marks)) in
       record { stays = stays-same n old; so = λ lit ready. (0, peeling-start n (rowsIn flat ends first count lit) old left counted ready) }
 
-  module _ (left : ℕ) (l : Lists) (g : Goes n flat ends first count old left l) (fit : fitting ≡ true) where
+  module _ (left : ℕ) (l : Lists) (g : Goes n flat ends first count old left l) (enough : enoughHere ≡ true) where
     pub peels-done : left ≡ 0 → Peels n flat ends first count old l true
     peels-done e =
         record {
           stays = g .stays;
-          refused = λ u. never fit u;
+          refused = λ u. never enough u;
           told = λ u lit ready. let z = g .so lit ready in peeling-done n (rowsIn flat ends first count lit) old (z .0) left l (z .1) e;
         }
 
@@ -292,7 +292,7 @@ module _ (n : ℕ) (flat ends : List ℕ) (first count : ℕ) (old : Lists) wher
       peels-stuck e =
           record {
             stays = stays-on n old l l′ (g .stays) (step .stays);
-            refused = λ u. never fit u;
+            refused = λ u. never enough u;
             told = λ u lit ready.
                 let z = g .so lit ready in
                 let t = peeling-stuck n (rowsIn flat ends first count lit) old (z .0) left l (z .1) more (step .none-dangles (not-out r e) lit (z .1 .ready)) in

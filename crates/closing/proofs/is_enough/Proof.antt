@@ -1,9 +1,9 @@
--- `closing::fits` meets its contract. Assumes nothing.
+-- `closing::is_enough` meets its contract. Assumes nothing.
 use Rattle.machine.proofs.FormWords.{four-words}
-use Rattle.closing.specs.Closing.{fits?}
+use Rattle.closing.specs.Closing.{enough?}
 use borrow.Author.Needs.{needs}
-use Rattle.closing.proofs.fits.Statement.{statement}
-use Rattle.closing.proofs.fits.Tie as tie
+use Rattle.closing.proofs.is_enough.Statement.{statement}
+use Rattle.closing.proofs.is_enough.Tie as tie
 
 cast-last : tie.Need-cast-last
 cast-last c = search needs
@@ -15,8 +15,8 @@ add-last : tie.Need-add-last
 add-last c = search needs
 
 returns : tie.Need-returns
-unfolding fits?
+unfolding enough?
 returns c = rw (← four-words)
 
-pub fits-spec : {M : Type 1} → statement M
-fits-spec = tie.close (tie.spec cast-last cast-last-2 add-last returns)
+pub is-enough-spec : {M : Type 1} → statement M
+is-enough-spec = tie.close (tie.spec cast-last cast-last-2 add-last returns)

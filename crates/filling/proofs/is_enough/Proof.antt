@@ -1,9 +1,9 @@
--- `filling::fits` meets its contract. Assumes nothing.
+-- `filling::is_enough` meets its contract. Assumes nothing.
 use mathlib.Core.Path.{refl}
-use Rattle.filling.specs.Filling.{fits?}
+use Rattle.filling.specs.Filling.{enough?}
 use borrow.Author.Needs.{needs}
-use Rattle.filling.proofs.fits.Statement.{statement}
-use Rattle.filling.proofs.fits.Tie as tie
+use Rattle.filling.proofs.is_enough.Statement.{statement}
+use Rattle.filling.proofs.is_enough.Tie as tie
 
 cast-last : tie.Need-cast-last
 cast-last c = search needs
@@ -15,8 +15,8 @@ add-last : tie.Need-add-last
 add-last c = search needs
 
 returns : tie.Need-returns
-unfolding fits?
+unfolding enough?
 returns c = λ flat ends. refl
 
-pub fits-spec : {M : Type 1} → statement M
-fits-spec = tie.close (tie.spec cast-last cast-last-2 add-last returns)
+pub is-enough-spec : {M : Type 1} → statement M
+is-enough-spec = tie.close (tie.spec cast-last cast-last-2 add-last returns)

@@ -1,13 +1,13 @@
 -- `halves::decode::run_half` meets its contract. Assumes nothing.
 use Rattle.turns.specs.Turns.{Working}
-use Rattle.turns.proofs.Marked.{does-fit, answers-refused}
-use Rattle.halves.proofs.HalfDecodes.{fits-out, half-runs}
+use Rattle.turns.proofs.Marked.{enough-told, answers-refused}
+use Rattle.halves.proofs.HalfDecodes.{enough-out, half-runs}
 use borrow.Author.Needs.{needs}
 use Rattle.halves.proofs.decode.run_half.Statement.{statement}
 use Rattle.halves.proofs.decode.run_half.Tie as tie
 
-fits-requires : tie.Need-fits-requires
-fits-requires c κs = search needs
+is-enough-requires : tie.Need-is-enough-requires
+is-enough-requires c κs = search needs
 
 same-length : tie.Need-same-length
 same-length c = search needs
@@ -21,11 +21,11 @@ same-length-3 c = search needs
 returns : tie.Need-returns
 returns c =
     let old : Working = record { marks = c .before .before .before .before .before .before .before .before .before .before .before .before .before .args .marks .now; forms = c .before .before .before .before .before .before .before .before .before .before .before .before .before .args .forms .now; work = c .before .before .before .before .before .before .before .before .before .before .before .before .before .args .work .now } in
-    answers-refused _ _ _ _ _ old _ (c .before .fits2 .ensures) (c .if1 .taken)
+    answers-refused _ _ _ _ _ old _ (c .before .is-enough .ensures) (c .if1 .taken)
 
 start-and-turn-requires : tie.Need-start-and-turn-requires
 start-and-turn-requires c κs =
-    let f = fits-out _ _ _ _ _ _ _ _ _ _ _ (does-fit _ _ (c .before .before .before .before .fits2 .ensures) (c .before .before .before .if1 .left)) in
+    let f = enough-out _ _ _ _ _ _ _ _ _ _ _ (enough-told _ _ (c .before .before .before .before .is-enough .ensures) (c .before .before .before .if1 .left)) in
     (f .0, (f .1 .0, f .1 .1, f .1 .2, f .1 .3))
 
 same-length-4 : tie.Need-same-length-4
@@ -40,13 +40,13 @@ same-length-6 c = search needs
 returns-2 : tie.Need-returns-2
 returns-2 c =
     let old : Working = record { marks = c .before .before .before .before .before .before .before .before .before .before .before .before .before .before .before .before .before .before .before .before .before .before .before .args .marks .now; forms = c .before .before .before .before .before .before .before .before .before .before .before .before .before .before .before .before .before .before .before .before .before .before .before .args .forms .now; work = c .before .before .before .before .before .before .before .before .before .before .before .before .before .before .before .before .before .before .before .before .before .before .before .args .work .now } in
-    half-runs _ _ _ _ _ _ _ _ _ (c .before .before .before .before .before .before .before .before .before .before .before .fits2 .ensures) (c .before .before .before .before .before .before .before .before .before .before .if1 .left) old _ _ (c .before .before .before .before .before .before .start-and-turn .ensures)
+    half-runs _ _ _ _ _ _ _ _ _ (c .before .before .before .before .before .before .before .before .before .before .before .is-enough .ensures) (c .before .before .before .before .before .before .before .before .before .before .if1 .left) old _ _ (c .before .before .before .before .before .before .start-and-turn .ensures)
 
 pub run-half-spec : {M : Type 1} → statement M
 run-half-spec =
     tie.close
     (tie.spec
-    fits-requires
+    is-enough-requires
     same-length
     same-length-2
     same-length-3
