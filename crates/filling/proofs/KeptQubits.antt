@@ -16,7 +16,7 @@ use Rattle.binary.proofs.WordBits.{order}
 use Rattle.lists.specs.Cleared.{Cleared}
 use Rattle.bitsets.specs.Bitsets.{inSet, Flipped}
 use Rattle.code.specs.Lists.{rowAt}
-use Rattle.code.proofs.Order.{Distinct}
+use Rattle.code.specs.Tests.{Distinct}
 use Rattle.incidence.specs.Incidence.{slot, numberOn, rowsOn}
 use Rattle.machine.specs.Machine.{isOpen, put, part}
 use Rattle.machine.specs.Lists.{view}

@@ -18,8 +18,8 @@ use Rattle.binary.proofs.WordBits.{order}
 use Rattle.lists.specs.Cleared.{Cleared}
 use Rattle.bitsets.specs.Bitsets.{inSet, Flipped}
 use Rattle.code.specs.Lists.{rowAt}
-use Rattle.code.specs.Tests.{Ascending}
-use Rattle.code.proofs.Order.{Distinct, ascending-distinct}
+use Rattle.code.specs.Tests.{Ascending, Distinct}
+use Rattle.code.proofs.Order.{ascending-distinct}
 use Rattle.machine.specs.Machine.{isOpen, part}
 use Rattle.machine.specs.Lists.{view}
 use Rattle.scans.specs.Rows.{RowLists, read?, GoodRows}

@@ -5,6 +5,7 @@
 --   RowPut    a row is on a qubit, and has an open qubit more; ReadAs: it is one of the half's that was read
 --   Opens     a qubit becomes open: the numbers of the rows, and the rows on each qubit, have it
 --   RowsPut   the same, from the rows on the qubit; QubitKept: from the list of the rows on each qubit; QubitsKept: of all open qubits
+--   enough?   whether sizes are in range and lists long enough
 --   Fills     everything kept of the rows, from the marks
 use mathlib.Core.Path.{_≡_}
 use mathlib.Core.Bool.{Bool, true, false, _&&_, cond}
@@ -15,7 +16,7 @@ use lib.ListN.{length, getD}
 use Rattle.binary.specs.Bits.{_⊕_}
 use Rattle.binary.specs.Meaning.{Qubits, has}
 use Rattle.bitsets.specs.Bitsets.{inSet, Flipped}
-use Rattle.code.proofs.Order.{Distinct}
+use Rattle.code.specs.Tests.{Distinct}
 use Rattle.incidence.specs.Incidence.{numberOn, rowsOn}
 use Rattle.machine.specs.Machine.{isOpen, part, put}
 use Rattle.machine.specs.Lists.{view}
@@ -77,13 +78,13 @@ pub record QubitsKept (n : ℕ) (ends : List ℕ) (first count : ℕ) (lit marks
   pub long : length new ≡ length old
   pub kept : told ≡ true → (flat : List ℕ) → let c = rowsIn flat ends first count lit in GoodRows n c → Kept (isOpen (view n marks)) c new × RowsOn (isOpen (view n marks)) c new
 
-unfoldable pub fits? : ℕ → RowLists → ℕ → Bool
-fits? n c work =
+unfoldable pub enough? : ℕ → RowLists → ℕ → Bool
+enough? n c work =
     leb n 1024 && leb (c .count) 512 && leb (c .first + c .count) 1024 && leb 9216 work && leb (c .first + c .count) (length (c .lit))
 
--- Where sizes and lists fit, what is kept of good rows is a fresh count over the marks, and the rows on each open qubit. Otherwise nothing is written.
+-- Where sizes are in range and lists long enough, what is kept of good rows is a fresh count over the marks, and the rows on each open qubit. Otherwise nothing is written.
 pub record Fills (n : ℕ) (c : RowLists) (marks old new : List ℕ) : Type 0 where
   pub long : length new ≡ length old
-  pub refused : fits? n c (length old) ≡ false → new ≡ old
-  pub kept : fits? n c (length old) ≡ true → GoodRows n c → Kept (isOpen (view n marks)) c new
-  pub rows : fits? n c (length old) ≡ true → GoodRows n c → RowsOn (isOpen (view n marks)) c new
+  pub refused : enough? n c (length old) ≡ false → new ≡ old
+  pub kept : enough? n c (length old) ≡ true → GoodRows n c → Kept (isOpen (view n marks)) c new
+  pub rows : enough? n c (length old) ≡ true → GoodRows n c → RowsOn (isOpen (view n marks)) c new

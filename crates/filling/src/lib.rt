@@ -3,7 +3,7 @@ ghost use mathlib.Core.Path.{_≡_};
 ghost use mathlib.Core.List.{List};
 ghost use Prim.Native.Nat.{ℕ, suc, _+_, _≤_, _<_};
 ghost use lib.ListN.{length};
-ghost use Rattle.filling.specs.Filling.{Emptied, RowAdded, KeptTo, RowPut, RowsPut, QubitKept, QubitsKept, fits?, Fills};
+ghost use Rattle.filling.specs.Filling.{Emptied, RowAdded, KeptTo, RowPut, RowsPut, QubitKept, QubitsKept, enough?, Fills};
 use code::KindRow;
 use code::Qubit;
 use code::Row;
@@ -68,8 +68,8 @@ fn keep_row(
 }
 
 // Whether the sizes are document 01's and the lists long enough.
-fn fits(n: u16, lit: &[u8], rows: Rows, work: &[u64]) -> bool
-    ensures { λ r. ⌜ ((flat ends : List ℕ) → r ≡ fits? n (record { flat = flat; ends = ends; lit = now (lit .entry); first = rows .first .0; count = rows .count }) (length (now (work .entry)))) ⌝ }
+fn is_enough(n: u16, lit: &[u8], rows: Rows, work: &[u64]) -> bool
+    ensures { λ r. ⌜ ((flat ends : List ℕ) → r ≡ enough? n (record { flat = flat; ends = ends; lit = now (lit .entry); first = rows .first .0; count = rows .count }) (length (now (work .entry)))) ⌝ }
 {
     let first = rows.first;
     let last = first.0 as usize + rows.count as usize;
@@ -187,7 +187,7 @@ pub fn fill(
 )
     ensures { λ _. ⌜ Fills n (record { flat = now (flat .entry); ends = now (ends .entry); lit = now (lit .entry); first = rows .first .0; count = rows .count }) (now (marks .entry)) (now (work .entry)) (now (work .exit)) ⌝ }
 {
-    if !fits(n, lit, rows, work) {
+    if !is_enough(n, lit, rows, work) {
         return;
     }
     let size = n as usize;

@@ -23,7 +23,7 @@ use Rattle.binary.specs.Words.{listed}
 use Rattle.packing.specs.Packed.{cell}
 use Rattle.columns.specs.Columns.{untaken, Numbered}
 use Rattle.numbering.specs.Numbering.{Stays, NumberedBut}
-use Rattle.search.specs.Route.{Stand, some?, former, clearing, take, steps, ascend}
+use Rattle.search.specs.Route.{Stand, some?, former, clearing, takeColumn, steps, ascend}
 use Rattle.search.specs.Marked.{columnsOf}
 
 ----------------------------------------------------------------------
@@ -116,7 +116,7 @@ pub record LostTaken (n w rows : ℕ) (lost : List ℕ) (q top : ℕ) (m marks :
   pub low : top ≤ r
   pub within : r ≤ rows
   pub order : (k : ℕ) → k < top → getD m′ (9216 + k) 0 ≡ getD m (9216 + k) 0
-  pub stands : Same (standOf n w rows r m′) (cond (listed n lost q) (take rows q (standOf n w rows top m)) (standOf n w rows top m))
+  pub stands : Same (standOf n w rows r m′) (cond (listed n lost q) (takeColumn rows q (standOf n w rows top m)) (standOf n w rows top m))
   pub marked : getD marks′ q 0 ≡ cond (listed n lost q && some? (clearing rows q (standOf n w rows top m))) 1 (getD marks q 0)
   pub kept : (p : ℕ) → (p ≡ q → ⊥) → getD marks′ p 0 ≡ getD marks p 0
 

@@ -6,6 +6,7 @@
 --   PeeledFirst  whether the lost qubits peel away
 --   Searched     the fixed qubits marked
 --   Begun        the marks are the start's, and what is kept of the rows is right over them
+--   enough?      whether sizes are in range and lists long enough; enoughIn?: of the lists; searchable?: for the search alone
 --   Starts       the promise of `start`
 --   Opens        the promise of `open_marks`; Marks: of `mark_start`
 use mathlib.Core.Path.{_≡_}
@@ -86,20 +87,20 @@ pub record Begun (n : ℕ) (c : RowLists) (lost : List ℕ) (other others : ℕ)
   pub marked : view n marks ≡ startMark (listed n lost) (fixedIn n c lost other others)
   pub keeps : Keeps n c work marks
 
-unfoldable pub fits? : ℕ → ℕ → ℕ → ℕ → ℕ → ℕ → ℕ → ℕ → ℕ → Bool
-fits? n lost lit first count other others work marks =
+unfoldable pub enough? : ℕ → ℕ → ℕ → ℕ → ℕ → ℕ → ℕ → ℕ → ℕ → Bool
+enough? n lost lit first count other others work marks =
     leb n 1024 && leb count 512 && leb others 512 && leb first 512 && leb other 512 && leb 10240 work && leb n lost && leb (first + count) lit && leb n marks
 
-abbrev pub fitting : ℕ → RowLists → List ℕ → ℕ → ℕ → List ℕ → List ℕ → Bool
-fitting n c lost other others work marks = fits? n (length lost) (length (c .lit)) (c .first) (c .count) other others (length work) (length marks)
+abbrev pub enoughIn? : ℕ → RowLists → List ℕ → ℕ → ℕ → List ℕ → List ℕ → Bool
+enoughIn? n c lost other others work marks = enough? n (length lost) (length (c .lit)) (c .first) (c .count) other others (length work) (length marks)
 
--- Where sizes and lists fit, of rows that are strictly ascending and below n, and commute. Otherwise nothing is written.
+-- Where sizes are in range and lists long enough, of rows that are strictly ascending and below n, and commute. Otherwise nothing is written.
 pub record Starts (n : ℕ) (c : RowLists) (lost : List ℕ) (other others : ℕ) (work work′ marks marks′ : List ℕ) : Type 0 where
   pub work-long : length work′ ≡ length work
   pub marks-long : length marks′ ≡ length marks
   pub rest : (q : ℕ) → n ≤ q → getD marks′ q 0 ≡ getD marks q 0
-  pub refused : fitting n c lost other others work marks ≡ false → (work′ ≡ work) × (marks′ ≡ marks)
-  pub begun : fitting n c lost other others work marks ≡ true → GoodRows n c → All (Ascending n) (rowsFrom (c .flat) (c .ends) other others)
+  pub refused : enoughIn? n c lost other others work marks ≡ false → (work′ ≡ work) × (marks′ ≡ marks)
+  pub begun : enoughIn? n c lost other others work marks ≡ true → GoodRows n c → All (Ascending n) (rowsFrom (c .flat) (c .ends) other others)
       → Commute (rowsFrom (c .flat) (c .ends) (c .first) (c .count)) (rowsFrom (c .flat) (c .ends) other others) → Begun n c lost other others work′ marks′
 
 ----------------------------------------------------------------------
@@ -115,7 +116,7 @@ pub record Opens (n : ℕ) (lost marks marks′ : List ℕ) : Type 0 where
 unfoldable pub searchable? : ℕ → ℕ → ℕ → ℕ → ℕ → ℕ → Bool
 searchable? n lost other others work marks = leb n 1024 && leb others 512 && leb other 512 && leb 10240 work && leb n lost && leb n marks
 
--- Where sizes and lists fit, the marks are the start's. Otherwise nothing is written.
+-- Where sizes are in range and lists long enough, the marks are the start's. Otherwise nothing is written.
 pub record Marks (n : ℕ) (flat ends lost : List ℕ) (other others : ℕ) (work work′ marks marks′ : List ℕ) : Type 0 where
   pub work-long : length work′ ≡ length work
   pub marks-long : length marks′ ≡ length marks
