@@ -5,29 +5,30 @@ use mathlib.Core.List.{List}
 use Prim.Native.Nat.{ℕ, _+_, _≤_}
 use native.Mathlib.Omega.{arith}
 use lib.Dec.{leb}
-use lib.ListN.{length}
+use lib.ListN.{length, getD}
 use borrow.Author.Tests.{lt-ltb, leb-true}
 use Rattle.binary.proofs.Bits.{bit, never, not-out, and-out}
 use Rattle.machine.specs.Machine.{isOpen}
 use Rattle.machine.specs.Lists.{view}
 use Rattle.scans.specs.Rows.{RowLists}
 use Rattle.kept.proofs.Same.{kept-by}
-use Rattle.filling.specs.Filling.{KeptTo, QubitsKept, enough?, Fills}
+use Rattle.filling.specs.Filling.{Beyond, KeptTo, QubitsKept, enough?, Fills}
 
 module _ (n : ℕ) (c : RowLists) (marks old new : List ℕ) where
   pub fills-not : (told : Bool) → told ≡ enough? n c (length old) → not told ≡ true → new ≡ old → Fills n c marks old new
   fills-not told i u s =
       let e : enough? n c (length old) ≡ false = sym i ∙ not-out told u in
-      record { long = ap length s; refused = λ t. s; kept = λ t. never t e; rows = λ t. never t e }
+      record { long = ap length s; past = λ k h. ap (λ (l : List ℕ). getD l k 0) s; refused = λ t. s; kept = λ t. never t e; rows = λ t. never t e }
 
   pub fills-qubits : (told : Bool) → told ≡ true → enough? n c (length old) ≡ true → QubitsKept n (c .ends) (c .first) (c .count) (c .lit) marks old new told → Fills n c marks old new
   fills-qubits told e enough v =
-      record { long = v .long; refused = λ t. never enough t; kept = λ t a. v .kept e (c .flat) a .0; rows = λ t a. v .kept e (c .flat) a .1 }
+      record { long = v .long; past = v .past; refused = λ t. never enough t; kept = λ t a. v .kept e (c .flat) a .0; rows = λ t a. v .kept e (c .flat) a .1 }
 
-  pub fills-rows : length new ≡ length old → enough? n c (length old) ≡ true → c .count ≤ 512 → KeptTo (c .count) n c marks new → Fills n c marks old new
-  fills-rows same enough few k =
+  pub fills-rows : length new ≡ length old → Beyond old new → enough? n c (length old) ≡ true → c .count ≤ 512 → KeptTo (c .count) n c marks new → Fills n c marks old new
+  fills-rows same past enough few k =
       record {
         long = same;
+        past = past;
         refused = λ t. never enough t;
         kept = λ t a. kept-by (isOpen (view n marks)) c new (k .counts) (k .tallied);
         rows = λ t a. record { on = λ q i e h. k .on a q i e (omega arith) ∙ rw (lt-ltb i (c .count) h) };

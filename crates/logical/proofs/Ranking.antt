@@ -3,7 +3,7 @@ use mathlib.Core.Path.{_≡_, refl, sym, ap, _∙_, fun-ext}
 use mathlib.Core.Bool.{Bool, true, false}
 use mathlib.Core.Logic.{⊎-elim}
 use mathlib.Core.List.{List}
-use Prim.Native.Nat.{ℕ, zero, suc, _+_, _≤_, _<_}
+use Prim.Native.Nat.{ℕ, _+_, _≤_, _<_}
 use native.Mathlib.Omega.{arith}
 use borrow.Author.Tests.{lt-ltb, le-ltb, le-leb, leb-true}
 use lib.Dec.{ltb, leb}
@@ -20,15 +20,12 @@ use Rattle.search.specs.declared.Cleared.{Cleared}
 use Rattle.search.specs.declared.Search.{Search}
 use Rattle.search.specs.declared.Search.the-variants.{Short, Made}
 use Rattle.search.specs.Route.{route}
-use Rattle.search.specs.Marked.{enough, columnsOf, Marked}
+use Rattle.search.specs.Marked.{enough, Marked}
 use Rattle.search.specs.Ranks.{ClearedRank}
+use Rattle.search.proofs.Stands.{columns-long}
 use Rattle.search.proofs.Ranks.{cleared-rank}
 use Rattle.records.specs.declared.Sizes.{Sizes}
 use Rattle.logical.specs.Logical.{Few, few?, RankOf, RanksOf}
-
-columns-count : (work : List ℕ) (k : ℕ) → length (columnsOf work k) ≡ k
-columns-count work zero = refl
-columns-count work (suc k) = ap suc (columns-count work k)
 
 -- Every qubit is lost.
 all-listed : (n : ℕ) (lost : List ℕ) → n ≤ 1024 → ((q : ℕ) → q < 1024 → getD lost q 0 ≡ 1) → listed n lost ≡ (λ q. ltb q n)
@@ -77,7 +74,7 @@ module _ (n : ℕ) (flat ends : List ℕ) (first count : ℕ) (lost work work₁
             let all : m .1 ≡ c .all = cc in
             let s = m .3 rs (rows-count flat ends first count) (put sizes .packed) below in
             let cleared = ap length (s .taken ∙ ap (λ (l : Qubits). route n rs l .columns) (all-listed n lost (small sizes .0) ones)) in
-            sym all ∙ sym (columns-count work₂ (m .1)) ∙ cleared ∙ cleared-rank n rs below;
+            sym all ∙ sym (columns-long (m .1) work₂) ∙ cleared ∙ cleared-rank n rs below;
         none = λ f. searched f;
       }
     where

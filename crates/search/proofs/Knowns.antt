@@ -17,8 +17,8 @@ use Rattle.columns.specs.Columns.{untaken, rowsWith, Numbered}
 use Rattle.choosing.specs.declared.Shortest.{Shortest}
 use Rattle.choosing.specs.Choosing.{ShortestOf, room?}
 use Rattle.choosing.specs.Choosing as choosing
-use Rattle.search.specs.Route.{Stand, columnLength, without, takeBy, takeColumn, shortest, stepBy, step, steps}
-use Rattle.search.specs.Search.{Takes, rowOf, standOf, Same, Sound, Knowns}
+use Rattle.search.specs.Route.{Stand, columnLength, without, takeBy, takeColumn, shortest, stepBy, step, steps, Same}
+use Rattle.search.specs.Search.{Takes, rowOf, standOf, Sound, Knowns}
 use Rattle.binary.proofs.Bits.{bit, &&-true, and-in, and-out, tally-same}
 use Rattle.binary.proofs.WordBits.{order}
 use Rattle.numbering.proofs.Counting.{row-ends}

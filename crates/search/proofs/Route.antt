@@ -91,6 +91,33 @@ module _ (rs : List Row) (rows q : ℕ) (s : Stand) (T T′ : ℕ → Type 0) (t
           (column-cleared rows q i s (⊎-elim (λ (l : i < length (s .columns)). never (f .1) (empty i l q)) (λ l. l) (order i (length (s .columns)))) (f .0) (f .1)) v)
 
 ----------------------------------------------------------------------
+-- Columns taken one by one
+
+module _ (n : ℕ) (rs : List Row) (lost : Qubits) where
+  -- Each step takes one, so that after n steps none is untaken.
+  fewer-untaken : (k : ℕ) → tally n (steps n (length rs) k (begin n rs lost) .untaken) ≤ n - k
+  fewer-untaken zero = omega (arith, tally-few n (begin n rs lost .untaken))
+  fewer-untaken (suc k) =
+      by (fewer-untaken k) (shortest (columnLength (length rs) s) n (s .untaken)) (shortest-out (columnLength (length rs) s) (s .untaken) n)
+    where
+      s : Stand
+      s = steps n (length rs) k (begin n rs lost)
+
+      by : tally n (s .untaken) ≤ n - k → (r : Option ℕ) → Among (columnLength (length rs) s) (s .untaken) n r
+          → tally n (stepBy (length rs) r s .untaken) ≤ n - suc k
+      by few none h = let z = counted-none n (s .untaken) (below-in n (λ p. not (s .untaken p)) (λ p l. ap not (h p l))) in omega (arith, z)
+      by few (some q) h =
+          let e = take-untaken (length rs) q s in
+          let u = tally-up n q (without q (s .untaken)) (s .untaken) (h .0) (ap (λ (b : Bool). s .untaken q && not b) (eq-eqb q q refl) ∙ &&-false (s .untaken q)) (h .1)
+          (λ p d. sym (&&-true (s .untaken p) (ap not d))) in
+          omega (arith, few, u, ap (tally n) e)
+
+  pub none-untaken : (p : ℕ) → p < n → known n rs lost .untaken p ≡ false
+  none-untaken p h =
+      not-out (known n rs lost .untaken p) (below-out n (λ p. not (known n rs lost .untaken p))
+      (none-counted n (known n rs lost .untaken) (omega (arith, fewer-untaken n))) p h)
+
+----------------------------------------------------------------------
 -- The rows at the start
 
 pub row-at : (rs : List Row) (i : ℕ) → i < length rs → List·Memᴰ (getD rs i []) rs
@@ -161,29 +188,6 @@ module _ (n : ℕ) (rs : List Row) (rows-below : Below n rs) (lost : Qubits) whe
   steps-standing zero = record { left = left-begin; empty = λ j l. absurd (not-suc-le-zero l); inside = λ p t. not-out (lost p) (and-out (ltb p n) (not (lost p)) t .1) }
   steps-standing (suc k) = step-standing (steps n (length rs) k (begin n rs lost)) (steps-standing k)
 
-  -- Each step takes one, so that after n steps none is untaken.
-  fewer-untaken : (k : ℕ) → tally n (steps n (length rs) k (begin n rs lost) .untaken) ≤ n - k
-  fewer-untaken zero = omega (arith, tally-few n (begin n rs lost .untaken))
-  fewer-untaken (suc k) =
-      by (fewer-untaken k) (shortest (columnLength (length rs) s) n (s .untaken)) (shortest-out (columnLength (length rs) s) (s .untaken) n)
-    where
-      s : Stand
-      s = steps n (length rs) k (begin n rs lost)
-
-      by : tally n (s .untaken) ≤ n - k → (r : Option ℕ) → Among (columnLength (length rs) s) (s .untaken) n r
-          → tally n (stepBy (length rs) r s .untaken) ≤ n - suc k
-      by few none h = let z = counted-none n (s .untaken) (below-in n (λ p. not (s .untaken p)) (λ p l. ap not (h p l))) in omega (arith, z)
-      by few (some q) h =
-          let e = take-untaken (length rs) q s in
-          let u = tally-up n q (without q (s .untaken)) (s .untaken) (h .0) (ap (λ (b : Bool). s .untaken q && not b) (eq-eqb q q refl) ∙ &&-false (s .untaken q)) (h .1)
-          (λ p d. sym (&&-true (s .untaken p) (ap not d))) in
-          omega (arith, few, u, ap (tally n) e)
-
-  none-untaken : (p : ℕ) → p < n → known n rs lost .untaken p ≡ false
-  none-untaken p h =
-      not-out (known n rs lost .untaken p) (below-out n (λ p. not (known n rs lost .untaken p))
-      (none-counted n (known n rs lost .untaken) (omega (arith, fewer-untaken n))) p h)
-
   ----------------------------------------------------------------------
   -- The lost columns
 
@@ -195,7 +199,7 @@ module _ (n : ℕ) (rs : List Row) (rows-below : Below n rs) (lost : Qubits) whe
   ascending zero =
       record {
         left = left-iff rs (Taken (known n rs lost)) (Before lost 0) (LeftIn (length rs) (known n rs lost)) (λ p t. inl (t .0))
-            (λ s x h p. ⊎-elim (λ e. ⊎-elim (λ (l : p < n). h p (e, none-untaken p l)) (λ (l : n ≤ p). past s x p l) (order p n)) (λ l. absurd (not-suc-le-zero l)))
+            (λ s x h p. ⊎-elim (λ e. ⊎-elim (λ (l : p < n). h p (e, none-untaken n rs lost p l)) (λ (l : n ≤ p). past s x p l) (order p n)) (λ l. absurd (not-suc-le-zero l)))
             (steps-standing n .left);
         empty = steps-standing n .empty;
       }

@@ -17,9 +17,9 @@ use Rattle.binary.specs.Meaning.{Qubits}
 use Rattle.binary.specs.Words.{bit as word-bit}
 use Rattle.packing.specs.Packed.{cell}
 use Rattle.columns.specs.Columns.{untaken, Numbered}
-use Rattle.search.specs.Route.{Stand, first, some?, former, cleared, without, takeBy, clearing, takeColumn, ascend}
+use Rattle.search.specs.Route.{Stand, first, some?, former, cleared, without, takeBy, clearing, takeColumn, ascend, Same}
 use Rattle.search.specs.Marked.{columnsOf}
-use Rattle.search.specs.Search.{Column, Clears, Takes, rowOf, standOf, Same}
+use Rattle.search.specs.Search.{Column, Clears, Takes, rowOf, standOf}
 use Rattle.binary.proofs.Bits.{bit, &&-false, tally-same}
 use Rattle.binary.proofs.WordBits.{order}
 use Rattle.numbering.proofs.Counting.{row-ends, number-same}
@@ -45,7 +45,7 @@ pub columns-same : (top : ℕ) (m m′ : List ℕ) → ((k : ℕ) → k < top �
 columns-same zero m m′ h = refl
 columns-same (suc top) m m′ h = ap₂ _∷_ (h top (omega arith)) (columns-same top m m′ (λ k l. h k (omega arith)))
 
-columns-long : (top : ℕ) (m : List ℕ) → length (columnsOf m top) ≡ top
+pub columns-long : (top : ℕ) (m : List ℕ) → length (columnsOf m top) ≡ top
 columns-long zero m = refl
 columns-long (suc top) m = ap suc (columns-long top m)
 

@@ -11,10 +11,15 @@
 --   begin         at the start no column is taken
 --   known         all columns that are not lost are taken
 --   route         and then the lost ones
+--   empty?        whether no row left has a column; clearable?: an untaken column that a row has
+--   Same          two stands but for the untaken columns: the columns that a row has cleared, the rows left
+--   stepBut       the shortest column that a row has is taken; stepsBut: so many times, columns that no row has at any time between, or never
+--   EmptyLaw      whenever a column that no row has is taken, or never, the columns that a row clears and the rows left are the route's
+use mathlib.Core.Path.{_≡_}
 use mathlib.Core.Bool.{Bool, true, false, not, cond, _&&_}
 use mathlib.Core.List.{List, [], _∷_}
 use mathlib.Core.Option.{Option, none, some}
-use Prim.Native.Nat.{ℕ, zero, suc}
+use Prim.Native.Nat.{ℕ, zero, suc, _≤_}
 use lib.Dec.{eqb, ltb}
 use lib.ListN.{length, getD}
 use Rattle.binary.specs.Bits.{_⊕_, tally}
@@ -113,3 +118,40 @@ known n rs lost = steps n (length rs) n (begin n rs lost)
 
 unfoldable pub route : ℕ → List Row → Qubits → Stand
 route n rs lost = ascend (length rs) lost n (known n rs lost)
+
+----------------------------------------------------------------------
+-- Columns that no row left has
+
+abbrev pub empty? : ℕ → Stand → ℕ → Bool
+empty? rows s q = eqb (columnLength rows s q) 0
+
+abbrev pub clearable? : ℕ → Stand → Qubits
+clearable? rows s q = s .untaken q && not (empty? rows s q)
+
+abbrev pub Same : Stand → Stand → Type 0
+Same s t = (s .columns ≡ t .columns) × (s .row ≡ t .row)
+
+abbrev pub stepBut : ℕ → ℕ → Stand → Stand
+stepBut n rows s = stepBy rows (shortest (columnLength rows s) n (clearable? rows s)) s
+
+-- none: such a step. some q: column q is taken, if no row has it.
+abbrev pub stepsBut : ℕ → ℕ → List (Option ℕ) → Stand → Stand
+stepsBut n rows [] s = s
+stepsBut n rows (none ∷ l) s = stepsBut n rows l (stepBut n rows s)
+stepsBut n rows (some q ∷ l) s = stepsBut n rows l (cond (empty? rows s q) (takeColumn rows q s) s)
+
+-- How many are steps.
+abbrev pub stepsIn : List (Option ℕ) → ℕ
+stepsIn [] = 0
+stepsIn (none ∷ l) = suc (stepsIn l)
+stepsIn (some q ∷ l) = stepsIn l
+
+-- Of a column that no row has nothing changes when it is taken but that it is taken, and no column that is taken gives it a row. n steps are enough, since each takes one of n columns.
+pub record EmptyColumns (n : ℕ) (rs : List Row) (lost : Qubits) : Type 0 where
+  pub taken : (rows q : ℕ) (s : Stand) → empty? rows s q ≡ true → takeColumn rows q s ≡ record { untaken = without q (s .untaken); columns = s .columns; row = s .row }
+  pub stays : (rows p q : ℕ) (s : Stand) → empty? rows s q ≡ true → empty? rows (takeColumn rows p s) q ≡ true
+  pub knowns : (l : List (Option ℕ)) → n ≤ stepsIn l → Same (stepsBut n (length rs) l (begin n rs lost)) (known n rs lost)
+  pub all : (l : List (Option ℕ)) → n ≤ stepsIn l → Same (ascend (length rs) lost n (stepsBut n (length rs) l (begin n rs lost))) (route n rs lost)
+
+unfoldable pub EmptyLaw : Type 0
+EmptyLaw = (n : ℕ) (rs : List Row) (lost : Qubits) → EmptyColumns n rs lost

@@ -37,7 +37,7 @@ returns-3 : tie.Need-returns-3
 returns-3 c =
     let enough = enough-told _ _ _ _ (c .before .before .before .before .before .before .before .before .before .before .is-enough .ensures _ _) (c .before .before .before .before .before .before .before .before .before .if1 .left) in
     let r = room-told _ _ _ _ (c .before .before .before .before .before .before .before .before .before .before .is-enough .ensures [] []) (c .before .before .before .before .before .before .before .before .before .if1 .left) in
-    fills-rows _ _ _ _ _ (c .before .before .by-rows .ensures .0 ∙ c .before .before .before .before .before .before .before .by-qubits .ensures .long) enough (r .few) (c .before .before .by-rows .ensures .1)
+    fills-rows _ _ _ _ _ (c .before .before .by-rows .ensures .0 ∙ c .before .before .before .before .before .before .before .by-qubits .ensures .long) (λ k h. c .before .before .by-rows .ensures .1 k h ∙ c .before .before .before .before .before .before .before .by-qubits .ensures .past k h) enough (r .few) (c .before .before .by-rows .ensures .2)
 
 pub fill-spec : {M : Type 1} → statement M
 fill-spec =
