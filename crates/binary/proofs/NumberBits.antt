@@ -1,5 +1,4 @@
 -- Numbers told by their bits. Assumes nothing.
---   numberOf   the number that has these bits below a number of them, and no others
 use mathlib.Core.Path.{_≡_, refl, sym, ap, _∙_}
 use mathlib.Core.Bool.{Bool, true, false}
 use mathlib.Core.Logic.{_⊎_, inl, inr}
@@ -10,7 +9,7 @@ use native.Mathlib.Omega.{arith}
 use lib.Count.{ones, ones-step}
 use lib.Dec.{eqb}
 use Rattle.binary.specs.Bits.{_⊕_, count}
-use Rattle.binary.specs.Words.{bit}
+use Rattle.binary.specs.Words.{bit, numberOf}
 use Rattle.binary.proofs.Bits.{never}
 use Rattle.binary.proofs.WordBits.{parity, bit-shr}
 
@@ -21,10 +20,6 @@ bit-first n = let e : n / 1 ≡ n = omega arith in ap (λ (x : ℕ). eqb (x % 2)
 
 pub bit-next : (n k : ℕ) → bit n (suc k) ≡ bit (n / 2) k
 bit-next n k = ap (bit n) (sym (one-add k)) ∙ sym (bit-shr n 1 k)
-
-abbrev pub numberOf : ℕ → (ℕ → Bool) → ℕ
-numberOf zero f = 0
-numberOf (suc m) f = count (f 0) (2 * numberOf m (λ i. f (suc i)))
 
 pub number-few : (m : ℕ) (f : ℕ → Bool) → numberOf m f < 2 ^ m
 number-few zero f = omega arith

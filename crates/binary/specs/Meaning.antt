@@ -1,5 +1,5 @@
 -- Errors, rows and products (document 01, "Meaning").
---   Qubits       a set of qubits: an error, a lost set
+--   Qubits       a set of qubits: an error, a lost set; noQubit: the empty set
 --   Row          a row, also called a check: the list of its qubits; `has` is the row as a set
 --   Check        a row with its reading: whether it is lit
 --   fires        a row fires on an error if they share an odd number of qubits
@@ -29,6 +29,9 @@ all? f (x ∷ xs) = f x && all? f xs
 -- An error is a set of qubits, and so are the lost set and a product.
 abbrev pub Qubits : Type 0
 Qubits = ℕ → Bool
+
+abbrev pub noQubit : Qubits
+noQubit q = false
 
 abbrev pub Row : Type 0
 Row = List ℕ

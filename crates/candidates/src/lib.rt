@@ -11,9 +11,9 @@ ghost use Rattle.machine.specs.Words.{finished?};
 ghost use Rattle.scans.specs.Scans.{countMarks};
 ghost use Rattle.records.specs.Lowest.{lowest};
 ghost use Rattle.candidates_meaning.specs.Asking.{candidateTests, candidateAnswer, Gives};
-use machine::Word;
 use candidates_meaning::CandidateAnswer;
 use candidates_meaning::CandidateRefusal;
+use machine::Word;
 
 // Whether the list to be written, the marks or the forms are too short for n qubits.
 fn is_short(n: u16, marks: &[u8], forms: &[u64], long: usize) -> bool

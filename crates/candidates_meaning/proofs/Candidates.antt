@@ -4,9 +4,10 @@ use mathlib.Core.Bool.{true, false}
 use Prim.Native.Nat.{ℕ, suc, _^_, _≤_, _<_}
 use native.Mathlib.Omega.{arith}
 use Rattle.binary.specs.Meaning.{Qubits, Differ}
+use Rattle.binary.specs.Words.{numberOf}
 use Rattle.binary.proofs.Bits.{never}
 use Rattle.binary.proofs.WordBits.{bit-zero}
-use Rattle.binary.proofs.NumberBits.{numberOf, number-few, number-bit, same-bits}
+use Rattle.binary.proofs.NumberBits.{number-few, number-bit, same-bits}
 use Rattle.machine.specs.declared.Word.{Word}
 use Rattle.machine.specs.declared.Word.the-variants.{Certain, Unsure, None, Spent, Stopped}
 use Rattle.machine.specs.Words.{finished?}

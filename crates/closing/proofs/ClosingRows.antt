@@ -15,11 +15,11 @@ use Rattle.forms.specs.declared.Taken.{Taken}
 use Rattle.forms.specs.declared.Taken.the-variants.{Failed, Live}
 use Rattle.machine.specs.Machine.{Forms, put, part, closed?, bind, takeIf, takeUpAll}
 use Rattle.forms.specs.Forms.{withLive, Topped, TakenAs}
-use Rattle.scans.specs.Rows.{RowLists, rowChecks}
-use Rattle.scans.proofs.Checks.{from, here, was-read, from-all, from-none}
+use Rattle.scans.specs.Rows.{RowLists, checkIn, readIn?, rowChecks}
+use Rattle.scans.proofs.Checks.{from, from-all, from-none}
 use Rattle.kept.specs.Kept.{rowIn, Lowered}
 use Rattle.kept.proofs.Lowering.{Lowering, Given, on-row, lowering-pass, lowering-none, on-it, number-is, rows-on, lowering-row, lowering-end}
-use Rattle.closing.specs.Closing.{closedAt?, TookIf, TakenRows, ClosingRows, fits?, fitting, ClosedRows}
+use Rattle.closing.specs.Closing.{closedAt?, TookIf, TakenRows, ClosingRows, enough?, enoughIn?, ClosedRows}
 use Rattle.closing.proofs.TakingRows.{taken-none, taken-some, never-live, length-empty, from-next, from-passed}
 
 none-has : (b : Bool) (row : Row) (p : ℕ) (x : Bool) → has (cond b row []) p ≡ false → (b && (has row p && x)) ≡ false
@@ -57,7 +57,7 @@ module _ (n : ℕ) (c : RowLists) (p live : ℕ) (o : Qubits) (forms₀ work₀ 
   pass i i′ left forms work same s a b none-on =
       let e : i + (i′ - i) ≡ i′ = omega arith in
       record {
-        so = sym (from-passed c test (withLive n forms left) i (i′ - i) (omega arith) (λ j l m. none-has (was-read c j) (here c j .row) p (closed? o′ (here c j)) (off j l (omega arith)))
+        so = sym (from-passed c test (withLive n forms left) i (i′ - i) (omega arith) (λ j l m. none-has (readIn? c j) (checkIn c j .row) p (closed? o′ (checkIn c j)) (off j l (omega arith)))
             ∙ ap (λ (k : ℕ). takeUpAll test (from c k) (withLive n forms left)) e) ∙ s .so;
         topped = s .topped;
         lowering = lowering-pass n c p o work₀ small few (g .given) i i′ work same (s .lowering) a b none-on;
@@ -79,18 +79,18 @@ module _ (n : ℕ) (c : RowLists) (p live : ℕ) (o : Qubits) (forms₀ work₀ 
   module _ (i left : ℕ) (forms work : List ℕ) (same : Rows work) (s : Closing n c p live o forms₀ i left forms work) (h : i < c .count) (found : inSet work p i ≡ true)
       (long : 9216 ≤ length work) (work′ : List ℕ) (number : ℕ) (low : Lowered i work work′ number) where
     -- The row closed if none is left.
-    closes : (was-read c i && test (here c i)) ≡ eqb number 0
+    closes : (readIn? c i && test (checkIn c i)) ≡ eqb number 0
     unfolding closedAt?
     closes =
         let it = on-it n c p o work₀ small few (g .given) i work same (s .lowering) h found long work′ number low in
-        rw (it .0, it .1, number-is n c p o work₀ small few (g .given) i work same (s .lowering) h found long work′ number low) (sym (length-empty (part o′ (here c i .row))))
+        rw (it .0, it .1, number-is n c p o work₀ small few (g .given) i work same (s .lowering) h found long work′ number low) (sym (length-empty (part o′ (checkIn c i .row))))
 
-    module _ (told : Bool) (tells : told ≡ eqb number 0) (room : 4 * n ≤ length forms) (t : Taken) (forms′ : List ℕ) (took : TookIf n told (here c i) left forms forms′ t) where
+    module _ (told : Bool) (tells : told ≡ eqb number 0) (room : 4 * n ≤ length forms) (t : Taken) (forms′ : List ℕ) (took : TookIf n told (checkIn c i) left forms forms′ t) where
       abbrev row-step : Option Forms
-      row-step = takeIf (was-read c i && test (here c i)) (withLive n forms left) (here c i)
+      row-step = takeIf (readIn? c i && test (checkIn c i)) (withLive n forms left) (checkIn c i)
 
       row-took : TakenAs n forms′ row-step t
-      row-took = subst (λ (b : Bool). TakenAs n forms′ (takeIf b (withLive n forms left) (here c i)) t) (tells ∙ sym closes) (took .taken room (s .topped))
+      row-took = subst (λ (b : Bool). TakenAs n forms′ (takeIf b (withLive n forms left) (checkIn c i)) t) (tells ∙ sym closes) (took .taken room (s .topped))
 
       whole : bind row-step (takeUpAll test (from c (i + 1))) ≡ takeUpAll test (rowChecks c) (withLive n forms₀ live)
       whole = sym (from-next c test i h (withLive n forms left)) ∙ s .so
@@ -165,7 +165,7 @@ module _ (n : ℕ) (c : RowLists) (p live : ℕ) (forms₀ work₀ : List ℕ) (
 
   module _ (i left : ℕ) (forms work : List ℕ) (a : ClosingAll n c p live forms₀ work₀ i left forms work) (h : i < c .count) (long : 9216 ≤ length work₀) (room : 4 * n ≤ length forms₀)
       (work′ : List ℕ) (number : ℕ) (low : Lowered i work work′ number) (told : Bool) (tells : told ≡ eqb number 0) (t : Taken) (forms′ : List ℕ)
-      (took : TookIf n told (here c i) left forms forms′ t) where
+      (took : TookIf n told (checkIn c i) left forms forms′ t) where
     stays : (i′ left′ : ℕ) → i′ ≤ c .count → (i′ < c .count → inSet work′ p i′ ≡ true)
         → ((o : Qubits) → Begun n c p live o forms₀ work₀ → Closing n c p live o forms₀ i′ left′ forms′ work′) → ClosingAll n c p live forms₀ work₀ i′ left′ forms′ work′
     stays i′ left′ w f s =
@@ -201,10 +201,10 @@ module _ (n : ℕ) (c : RowLists) (p live : ℕ) (forms₀ work₀ : List ℕ) (
         (rw (a .forms-long) room) t forms′ took left′ e i′ f)
 
 ----------------------------------------------------------------------
--- Sizes and lists that fit, and the promise
+-- Sizes in range and lists long enough, and the promise
 
 -- What the loop asks.
-pub record Fitting (n : ℕ) (c : RowLists) (p : ℕ) (work forms : List ℕ) : Type 0 where
+pub record Enough (n : ℕ) (c : RowLists) (p : ℕ) (work forms : List ℕ) : Type 0 where
   pub forms-long : 4 * n ≤ length forms
   pub small : p < 1024
   pub few : c .count ≤ 512
@@ -212,10 +212,10 @@ pub record Fitting (n : ℕ) (c : RowLists) (p : ℕ) (work forms : List ℕ) : 
   pub lit : c .first + c .count ≤ length (c .lit)
   pub last : c .first + c .count ≤ 1024
 
--- Of sizes and lists that fit.
-pub closed-as : (n : ℕ) (c : RowLists) (p live : ℕ) (forms forms′ work work′ : List ℕ) (t : Taken) → Fitting n c p work forms → ClosedRows n c p live forms forms′ work work′ t
+-- Of sizes in range and lists long enough.
+pub closed-as : (n : ℕ) (c : RowLists) (p live : ℕ) (forms forms′ work work′ : List ℕ) (t : Taken) → Enough n c p work forms → ClosedRows n c p live forms forms′ work work′ t
     → ClosingRows n c p live forms forms′ work work′ t
-unfolding fits?
+unfolding enough?
 closed-as n c p live forms forms′ work work′ t f v =
     v .closes (rw (
       lt-ltb p 1024 (f .small),
@@ -226,14 +226,14 @@ closed-as n c p live forms forms′ work work′ t f v =
       le-leb (c .first + c .count) (length (c .lit)) (f .lit),
     ))
 
-module _ (n : ℕ) (c : RowLists) (p live : ℕ) (forms work : List ℕ) (told : Bool) (tells : told ≡ fitting n c p work forms) where
-  does-fit : not told ≡ false → fitting n c p work forms ≡ true
-  does-fit e = bit (fitting n c p work forms) (λ y. y) (λ y. never (ap not (tells ∙ y)) e)
+module _ (n : ℕ) (c : RowLists) (p live : ℕ) (forms work : List ℕ) (told : Bool) (tells : told ≡ enoughIn? n c p work forms) where
+  enough-told : not told ≡ false → enoughIn? n c p work forms ≡ true
+  enough-told e = bit (enoughIn? n c p work forms) (λ y. y) (λ y. never (ap not (tells ∙ y)) e)
 
-  pub fits-out : not told ≡ false → Fitting n c p work forms
-  unfolding fits?
-  fits-out e =
-      let a = and-out _ (leb (c .first + c .count) (length (c .lit))) (does-fit e) in
+  pub enough-out : not told ≡ false → Enough n c p work forms
+  unfolding enough?
+  enough-out e =
+      let a = and-out _ (leb (c .first + c .count) (length (c .lit))) (enough-told e) in
       let b = and-out _ (leb 10240 (length work)) (a .0) in
       let d = and-out _ (leb (4 * n) (length forms)) (b .0) in
       let f = and-out _ (leb (c .first + c .count) 1024) (d .0) in
@@ -251,4 +251,4 @@ module _ (n : ℕ) (c : RowLists) (p live : ℕ) (forms work : List ℕ) (told :
   closed-refused e forms′ work′ i j = record { refused = λ u. (refl, i, j); closes = λ u. never u (sym tells ∙ not-out told e) }
 
   pub closed-made : not told ≡ false → (forms′ work′ : List ℕ) (t : Taken) → ClosingRows n c p live forms forms′ work work′ t → ClosedRows n c p live forms forms′ work work′ t
-  closed-made e forms′ work′ t v = record { refused = λ u. never (does-fit e) u; closes = λ u. v }
+  closed-made e forms′ work′ t v = record { refused = λ u. never (enough-told e) u; closes = λ u. v }

@@ -18,8 +18,8 @@ use Rattle.forms.specs.declared.Taken.the-variants.{Failed, Live}
 use Rattle.machine.specs.Machine.{Form, Forms, keepIf, part, empty?, closed?, takeUp, bind, takeIf, takeUpAll, blank}
 use Rattle.forms.specs.Forms.{withLive, Topped, TakenAs, TakesUp}
 use Rattle.forms.specs.Sides.{check}
-use Rattle.scans.specs.Rows.{RowLists, checkAt, checksFrom, rowChecks}
-use Rattle.scans.proofs.Checks.{from, here, was-read, from-all, from-none}
+use Rattle.scans.specs.Rows.{RowLists, checkAt, checkIn, readIn?, checksFrom, rowChecks}
+use Rattle.scans.proofs.Checks.{from, from-all, from-none}
 use Rattle.kept.specs.Kept.{openIn, Kept}
 use Rattle.closing.specs.Closing.{TookIf, LitClosed}
 
@@ -67,15 +67,15 @@ take-kept t false c cs fs = refl
 
 module _ (c : RowLists) where
   pub from-next : (t : Check → Bool) (i : ℕ) → i < c .count → (fs : Forms)
-      → takeUpAll t (from c i) fs ≡ bind (takeIf (was-read c i && t (here c i)) fs (here c i)) (takeUpAll t (from c (i + 1)))
+      → takeUpAll t (from c i) fs ≡ bind (takeIf (readIn? c i && t (checkIn c i)) fs (checkIn c i)) (takeUpAll t (from c (i + 1)))
   from-next t i h fs =
       let e : c .count - i ≡ suc (c .count - (i + 1)) = omega arith in
       let d : suc (c .first + i) ≡ c .first + (i + 1) = omega arith in
-      rw (e, ← d) (take-kept t (was-read c i) (here c i) (checksFrom (c .flat) (c .ends) (c .lit) (suc (c .first + i)) (c .count - (i + 1))) fs)
+      rw (e, ← d) (take-kept t (readIn? c i) (checkIn c i) (checksFrom (c .flat) (c .ends) (c .lit) (suc (c .first + i)) (c .count - (i + 1))) fs)
 
   -- A row that changes nothing is passed over.
   abbrev Still : (Check → Bool) → Forms → ℕ → Type 0
-  Still t fs j = takeIf (was-read c j && t (here c j)) fs (here c j) ≡ some fs
+  Still t fs j = takeIf (readIn? c j && t (checkIn c j)) fs (checkIn c j) ≡ some fs
 
   from-still : (t : Check → Bool) (fs : Forms) (i d : ℕ) → i + d ≤ c .count → ((j : ℕ) → i ≤ j → j < i + d → Still t fs j)
       → takeUpAll t (from c i) fs ≡ takeUpAll t (from c (i + d)) fs
@@ -91,7 +91,7 @@ module _ (c : RowLists) where
       ∙ ap (λ (cs : List Check). takeUpAll t cs fs) (from-none c (0 + c .count) (omega arith))
 
   -- So is a row that fails the test.
-  pub from-passed : (t : Check → Bool) (fs : Forms) (i d : ℕ) → i + d ≤ c .count → ((j : ℕ) → i ≤ j → j < i + d → (was-read c j && t (here c j)) ≡ false)
+  pub from-passed : (t : Check → Bool) (fs : Forms) (i d : ℕ) → i + d ≤ c .count → ((j : ℕ) → i ≤ j → j < i + d → (readIn? c j && t (checkIn c j)) ≡ false)
       → takeUpAll t (from c i) fs ≡ takeUpAll t (from c (i + d)) fs
   from-passed t fs i d h f = from-still t fs i d h (λ j a b. rw (f j a b))
 
@@ -115,38 +115,38 @@ module _ (c : RowLists) (work : List ℕ) where
   passed-none o k = ap (λ (cs : List Check). takeUpAll (closed? o) cs blank) (from-all c)
 
   abbrev step : Qubits → ℕ → Option Forms
-  step o i = takeIf (was-read c i && closed? o (here c i)) blank (here c i)
+  step o i = takeIf (readIn? c i && closed? o (checkIn c i)) blank (checkIn c i)
 
   module _ (i : ℕ) (h : i < c .count) where
     -- By its kept number a row is closed.
-    closed-told : (o : Qubits) → Kept o c work → was-read c i ≡ true → eqb (getD work (8704 + i) 0) 0 ≡ closed? o (here c i)
-    closed-told o v y = let z : openIn o c i ≡ length (part o (here c i .row)) = rw y in rw (v .counts i h, z) (length-empty (part o (here c i .row)))
+    closed-told : (o : Qubits) → Kept o c work → readIn? c i ≡ true → eqb (getD work (8704 + i) 0) 0 ≡ closed? o (checkIn c i)
+    closed-told o v y = let z : openIn o c i ≡ length (part o (checkIn c i .row)) = rw y in rw (v .counts i h, z) (length-empty (part o (checkIn c i .row)))
 
     -- A row that is not lit, or has an open qubit.
     pub passed-more : Passed i → (getD (c .lit) (c .first + i) 0 ≡ 1 → getD work (8704 + i) 0 ≡ 0 → ⊥) → Passed (i + 1)
     passed-more s not-both o v = sym (ap (λ (x : Option Forms). bind x (takeUpAll (closed? o) (from c (i + 1)))) same) ∙ sym (from-next c (closed? o) i h blank) ∙ s o v
       where
-        unlit : (b : Bool) → here c i .lit ≡ false → takeIf b blank (here c i) ≡ some blank
-        unlit true e = take-blank (here c i) ∙ rw e
+        unlit : (b : Bool) → checkIn c i .lit ≡ false → takeIf b blank (checkIn c i) ≡ some blank
+        unlit true e = take-blank (checkIn c i) ∙ rw e
         unlit false e = refl
 
-        lit-one : here c i .lit ≡ true → step o i ≡ some blank
+        lit-one : checkIn c i .lit ≡ true → step o i ≡ some blank
         lit-one e =
             let one = eqb-true (getD (c .lit) (c .first + i) 0) 1 e in
-            let y : was-read c i ≡ true = rw one in
-            let shut : closed? o (here c i) ≡ false = sym (closed-told o v y) ∙ ne-eqb (getD work (8704 + i) 0) 0 (not-both one) in
+            let y : readIn? c i ≡ true = rw one in
+            let shut : closed? o (checkIn c i) ≡ false = sym (closed-told o v y) ∙ ne-eqb (getD work (8704 + i) 0) 0 (not-both one) in
             rw (y, shut)
 
         same : step o i ≡ some blank
-        same = bit (here c i .lit) lit-one (unlit (was-read c i && closed? o (here c i)))
+        same = bit (checkIn c i .lit) lit-one (unlit (readIn? c i && closed? o (checkIn c i)))
 
     pub found-lit : Passed i → getD (c .lit) (c .first + i) 0 ≡ 1 → getD work (8704 + i) 0 ≡ 0 → (o : Qubits) → Kept o c work → takeUpAll (closed? o) (rowChecks c) blank ≡ none
     found-lit s one zero-left o v =
-        let y : was-read c i ≡ true = rw one in
-        let shut : closed? o (here c i) ≡ true = sym (closed-told o v y) ∙ eq-eqb (getD work (8704 + i) 0) 0 zero-left in
-        let lit-it : here c i .lit ≡ true = eq-eqb (getD (c .lit) (c .first + i) 0) 1 one in
-        let both : (was-read c i && closed? o (here c i)) ≡ true = rw (y, shut) in
-        let failed : step o i ≡ none = ap (λ (b : Bool). takeIf b blank (here c i)) both ∙ take-blank (here c i) ∙ rw lit-it in
+        let y : readIn? c i ≡ true = rw one in
+        let shut : closed? o (checkIn c i) ≡ true = sym (closed-told o v y) ∙ eq-eqb (getD work (8704 + i) 0) 0 zero-left in
+        let lit-it : checkIn c i .lit ≡ true = eq-eqb (getD (c .lit) (c .first + i) 0) 1 one in
+        let both : (readIn? c i && closed? o (checkIn c i)) ≡ true = rw (y, shut) in
+        let failed : step o i ≡ none = ap (λ (b : Bool). takeIf b blank (checkIn c i)) both ∙ take-blank (checkIn c i) ∙ rw lit-it in
         sym (s o v) ∙ from-next c (closed? o) i h blank ∙ ap (λ (x : Option Forms). bind x (takeUpAll (closed? o) (from c (i + 1)))) failed
 
   pub passed-all : (i : ℕ) → Passed i → c .count ≤ i → (o : Qubits) → Kept o c work → takeUpAll (closed? o) (rowChecks c) blank ≡ some blank

@@ -3,6 +3,7 @@
 --   closedAt?    whether a row is to be taken up; takenIf: the row taken up, if it is to be
 --   TookIf       a row taken up, if it is closed
 --   TakenRows    the rows on a settled qubit that it closed, taken up
+--   enough?      whether sizes are in range and lists long enough; enoughIn?: of the lists
 --   ClosedRows   the promise of `close_rows`: the same, and what stays
 use mathlib.Core.Path.{_≡_}
 use mathlib.Core.Bool.{Bool, true, false, _&&_, _||_, cond}
@@ -60,13 +61,13 @@ pub record ClosingRows (n : ℕ) (c : RowLists) (p live : ℕ) (forms forms′ w
   pub past : (k : ℕ) → 9216 ≤ k → getD work′ k 0 ≡ getD work k 0
   pub rows : GoodRows n c → (o : Qubits) → o p ≡ true → Kept o c work → RowsOn o c work → Topped n live forms → TakenRows n c p live o forms forms′ work′ t
 
-unfoldable pub fits? : ℕ → ℕ → ℕ → ℕ → ℕ → ℕ → ℕ → Bool
-fits? n lit first count p work forms = ltb p 1024 && leb count 512 && leb (first + count) 1024 && leb (4 * n) forms && leb 10240 work && leb (first + count) lit
+unfoldable pub enough? : ℕ → ℕ → ℕ → ℕ → ℕ → ℕ → ℕ → Bool
+enough? n lit first count p work forms = ltb p 1024 && leb count 512 && leb (first + count) 1024 && leb (4 * n) forms && leb 10240 work && leb (first + count) lit
 
-abbrev pub fitting : ℕ → RowLists → ℕ → List ℕ → List ℕ → Bool
-fitting n c p work forms = fits? n (length (c .lit)) (c .first) (c .count) p (length work) (length forms)
+abbrev pub enoughIn? : ℕ → RowLists → ℕ → List ℕ → List ℕ → Bool
+enoughIn? n c p work forms = enough? n (length (c .lit)) (c .first) (c .count) p (length work) (length forms)
 
--- Where sizes and lists fit. Otherwise nothing is written.
+-- Where sizes are in range and lists long enough. Otherwise nothing is written.
 pub record ClosedRows (n : ℕ) (c : RowLists) (p live : ℕ) (forms forms′ work work′ : List ℕ) (t : Taken) : Type 0 where
-  pub refused : fitting n c p work forms ≡ false → (t ≡ Failed) × (forms′ ≡ forms) × (work′ ≡ work)
-  pub closes : fitting n c p work forms ≡ true → ClosingRows n c p live forms forms′ work work′ t
+  pub refused : enoughIn? n c p work forms ≡ false → (t ≡ Failed) × (forms′ ≡ forms) × (work′ ≡ work)
+  pub closes : enoughIn? n c p work forms ≡ true → ClosingRows n c p live forms forms′ work work′ t

@@ -3,7 +3,7 @@ ghost use mathlib.Core.Path.{_≡_};
 ghost use Prim.Native.Nat.{_+_, _*_, _≤_, _<_};
 ghost use lib.ListN.{length};
 ghost use Rattle.scans.specs.Rows.{checkAt};
-ghost use Rattle.closing.specs.Closing.{TookIf, ClosingRows, fits?, ClosedRows, LitClosed};
+ghost use Rattle.closing.specs.Closing.{TookIf, ClosingRows, enough?, ClosedRows, LitClosed};
 use code::KindRow;
 use code::Qubit;
 use code::Row;
@@ -60,8 +60,8 @@ fn take_up_if(
     Taken::Live(live)
 }
 
-// Each row on qubit p, which was settled, has an open qubit less; those that this closed are taken up, ascending, up to the first that fails. Sizes and
-// lists fit.
+// Each row on qubit p, which was settled, has an open qubit less; those that this closed are taken up, ascending, up to the first that fails. Sizes are
+// in range and lists long enough.
 fn close(
     n: usize,
     flat: &[u16],
@@ -94,8 +94,8 @@ fn close(
 }
 
 // Whether the sizes are document 01's and the lists long enough.
-fn fits(n: usize, lit: &[u8], rows: Rows, p: Qubit, work: &[u64], forms: &[u64]) -> bool
-    ensures { λ r. ⌜ r ≡ fits? n (length (now (lit .entry))) (rows .first .0) (rows .count) (p .0) (length (now (work .entry))) (length (now (forms .entry))) ⌝ }
+fn is_enough(n: usize, lit: &[u8], rows: Rows, p: Qubit, work: &[u64], forms: &[u64]) -> bool
+    ensures { λ r. ⌜ r ≡ enough? n (length (now (lit .entry))) (rows .first .0) (rows .count) (p .0) (length (now (work .entry))) (length (now (forms .entry))) ⌝ }
 {
     let first = rows.first;
     let last = first.0 as usize + rows.count as usize;
@@ -104,7 +104,7 @@ fn fits(n: usize, lit: &[u8], rows: Rows, p: Qubit, work: &[u64], forms: &[u64])
 }
 
 // Each row on qubit p, which was settled, has an open qubit less; those that this closed are taken up, ascending, up to the first that fails. Nothing is
-// written where sizes or lists do not fit.
+// written where a size is out of range or a list too short.
 pub fn close_rows(
     n: usize,
     flat: &[u16],
@@ -118,7 +118,7 @@ pub fn close_rows(
 ) -> Taken
     ensures { λ t. ⌜ ClosedRows n (record { flat = now (flat .entry); ends = now (ends .entry); lit = now (lit .entry); first = rows .first .0; count = rows .count }) (p .0) live (now (forms .entry)) (now (forms .exit)) (now (work .entry)) (now (work .exit)) t ⌝ }
 {
-    if !fits(n, lit, rows, p, work, forms) {
+    if !is_enough(n, lit, rows, p, work, forms) {
         return Taken::Failed;
     }
     close(n, flat, ends, lit, rows, p, live, work, forms)

@@ -8,12 +8,7 @@ use borrow.Author.Tests.{ltb-true, leb-true, ne-eqb}
 use lib.Dec.{leb, ltb}
 use Rattle.binary.specs.Meaning.{Row, All, Below, has}
 use Rattle.binary.proofs.Bits.{and-out}
-use Rattle.code.specs.Tests.{ascendingFrom, ascending?, Ascending}
-
--- No qubit stands twice in the row.
-abbrev pub Distinct : Row → Type 0
-Distinct [] = Unit {0}
-Distinct (q ∷ row) = (has row q ≡ false) × Distinct row
+use Rattle.code.specs.Tests.{ascendingFrom, ascending?, Ascending, Distinct}
 
 pub all-map {ℓ} : {A : Type ℓ} {P Q : A → Type 0} → ((x : A) → P x → Q x) → (xs : List A) → All P xs → All Q xs
 all-map f [] a = tt

@@ -1,11 +1,12 @@
 -- The test of a row (document 01, "Records": refusal 5, row).
 --   ascending?  strictly ascending and below n; `Ascending` is a row that passes
+--   Distinct    no qubit stands twice in a row: so it is in one that passes
 use mathlib.Core.Path.{_≡_}
-use mathlib.Core.Bool.{Bool, true, _&&_}
+use mathlib.Core.Bool.{Bool, true, false, _&&_}
 use mathlib.Core.List.{[], _∷_}
 use Prim.Native.Nat.{ℕ, suc}
 use lib.Dec.{leb, ltb}
-use Rattle.binary.specs.Meaning.{Row}
+use Rattle.binary.specs.Meaning.{Row, has}
 
 -- Each qubit is below n, the first is `least` or above, and each later one is above the one before it.
 unfoldable pub ascendingFrom : ℕ → ℕ → Row → Bool
@@ -17,3 +18,7 @@ ascending? n row = ascendingFrom 0 n row
 
 abbrev pub Ascending : ℕ → Row → Type 0
 Ascending n row = ascending? n row ≡ true
+
+abbrev pub Distinct : Row → Type 0
+Distinct [] = Unit {0}
+Distinct (q ∷ row) = (has row q ≡ false) × Distinct row

@@ -13,10 +13,10 @@ use Rattle.binary.specs.Meaning.{Row, Qubits, All, all?, has, odd, Even, Commut
 use Rattle.binary.proofs.Bits.{bit, eqb-sym, &&-true}
 use Rattle.binary.proofs.Rows.{odd-sum, odd-none, has-below, all-in, all-out}
 use Rattle.code.specs.Lists.{rowsBetween, Flat}
-use Rattle.code.specs.Tests.{Ascending}
+use Rattle.code.specs.Tests.{Ascending, Distinct}
 use Rattle.commuting.specs.Even.{evenFor?, evenWith?}
 use Rattle.code.proofs.Flat.{flat-first}
-use Rattle.code.proofs.Order.{Distinct, ascending-below, ascending-distinct}
+use Rattle.code.proofs.Order.{ascending-below, ascending-distinct}
 
 ----------------------------------------------------------------------
 -- Symmetry

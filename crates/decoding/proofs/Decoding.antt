@@ -33,8 +33,8 @@ use Rattle.window.specs.Entering.{Enters}
 use Rattle.decodable.specs.declared.Test.{Test}
 use Rattle.decodable.specs.declared.Test.the-variants.{Passed, Failed}
 use Rattle.decodable.specs.Tests.{lacking?, testOf}
-use Rattle.decoding.specs.Decoding.{givenOf, shownOf, BothFit, Obeying, Reports, Replies}
-use Rattle.decoding.proofs.Halves.{both-fit, shown-held, obeying}
+use Rattle.decoding.specs.Decoding.{givenOf, shownOf, BothEnough, Obeying, Reports, Replies}
+use Rattle.decoding.proofs.Halves.{both-enough, shown-held, obeying}
 
 ----------------------------------------------------------------------
 -- The tests
@@ -157,10 +157,10 @@ module _ (budget limit : ℕ) (st : State) (flat ends shot shot′ window work :
   abbrev old : Lent
   old = lentOf (held flat ends shot) window work six
 
-  halves-fit : BothFit (st .sizes) budget limit (held flat ends shot′) (length work) six
-  halves-fit =
+  halves-enough : BothEnough (st .sizes) budget limit (held flat ends shot′) (length work) six
+  halves-enough =
       let o = whole (st .sizes) old (p .whole) in
-      both-fit (st .sizes) budget limit (held flat ends shot′) (length window) (length work) six (o .range)
+      both-enough (st .sizes) budget limit (held flat ends shot′) (length window) (length work) six (o .range)
       (record { flat = o .lists .flat; ends = o .lists .ends; shot = omega (arith, o .lists .shot, b .long); window = o .lists .window; work = o .lists .work }) (o .x) (o .z)
 
   no-refusal : (c : Code) (s : Shot) → Holds c s st (old .lists) → refusalAt (report budget limit) (ready c s) old ≡ none
@@ -187,8 +187,8 @@ module _ (budget limit : ℕ) (st : State) (flat ends shot shot′ window work :
       done =
           let good : (q : Pauli) → Obeying (givenOf q (sizesOf c) (new .lists) budget limit)
           = λ q. obeying c s (new .lists) (v .flat) (left .held) budget limit q (v .good-xs .ascending) (v .good-zs .ascending) (v .commute) (v .on) in
-          let fit = subst (λ (z : Sizes). BothFit z budget limit (new .lists) (length work) six) (v .sizes) halves-fit in
-          let t = (subst (λ (z : Sizes). Reports z budget limit (new .lists) work work′ six six′ rep) (v .sizes) d) .decoded fit (good X) (good Z) in (
+          let enough = subst (λ (z : Sizes). BothEnough z budget limit (new .lists) (length work) six) (v .sizes) halves-enough in
+          let t = (subst (λ (z : Sizes). Reports z budget limit (new .lists) work work′ six six′ rep) (v .sizes) d) .decoded enough (good X) (good Z) in (
             t .0 ∙ ap₂ (λ (x z : Shown). record { x = x .report; z = z .report }) (same X) (same Z),
             subst (λ (u : Shown). Shows (c .n) u (six .x) (six′ .x)) (same X) (t .1),
             subst (λ (u : Shown). Shows (c .n) u (six .z) (six′ .z)) (same Z) (t .2),

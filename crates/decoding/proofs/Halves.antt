@@ -25,13 +25,13 @@ use Rattle.machine.specs.Lists.{HalfLists}
 use Rattle.halves.specs.declared.HalfAnswer.{HalfAnswer}
 use Rattle.halves.specs.Starts.{RowsObey}
 use Rattle.scans.specs.Rows.{RowLists, ListedIn}
-use Rattle.halves.specs.Decode.{Given, fitting, Decodes}
+use Rattle.halves.specs.Decode.{Given, enoughIn?, Decodes}
 use Rattle.records.specs.declared.Sizes.{Sizes}
 use Rattle.records.specs.Records.{Pauli, X, Z, lost, lit, unread}
 use Rattle.records.specs.History.{Code, sizesOf, Shot, half}
 use Rattle.records.specs.Lists.{Lists, Six, marks, HeldShot}
 use Rattle.records.proofs.Range.{InRange, LongLists, LongHalf}
-use Rattle.decoding.specs.Decoding.{readingsOf, givenBy, givenOf, shownOf, reportIn, BothFit, Obeying, Reports}
+use Rattle.decoding.specs.Decoding.{readingsOf, givenBy, givenOf, shownOf, reportIn, BothEnough, Obeying, Reports}
 
 ----------------------------------------------------------------------
 -- Both decoded
@@ -53,21 +53,21 @@ module _ (z : Sizes) (budget limit : ℕ) (l : Lists) (readings : List ℕ) (tol
         z-long = f .lengths;
         x-past = d .past;
         z-past = f .past;
-        x-unfit = λ i. e ∙ ap reportIn (d .refused i .0);
-        z-unfit = λ i. g ∙ ap reportIn (f .refused (rw (d .work-long) i) .0);
-        decoded = λ fit m n.
-            let u = d .decoded (fit .x) m in
-            let v = f .decoded (rw (d .work-long) (fit .z)) n in
+        x-refused = λ i. e ∙ ap reportIn (d .refused i .0);
+        z-refused = λ i. g ∙ ap reportIn (f .refused (rw (d .work-long) i) .0);
+        decoded = λ enough m n.
+            let u = d .decoded (enough .x) m in
+            let v = f .decoded (rw (d .work-long) (enough .z)) n in
             (ap₂ (λ (p q : HalfReport). record { x = p; z = q }) (e ∙ ap reportIn (u .0)) (g ∙ ap reportIn (v .0)), u .1, v .1);
       }
 
 ----------------------------------------------------------------------
--- Sizes and lists fit
+-- Sizes in range and lists long enough
 
-fits-so : (g : Given) (work : ℕ) (l : HalfLists) → g .n ≤ 1024 → g .count ≤ 512 → g .others ≤ 512 → g .first ≤ 512 → g .other ≤ 512
-    → 10240 ≤ work → g .n ≤ length (g .lost) → g .first + g .count ≤ length (g .lit) → LongHalf (g .n) l → fitting g work l ≡ true
-unfolding fitting
-fits-so g work l n count others first other long on lights three =
+enough-so : (g : Given) (work : ℕ) (l : HalfLists) → g .n ≤ 1024 → g .count ≤ 512 → g .others ≤ 512 → g .first ≤ 512 → g .other ≤ 512
+    → 10240 ≤ work → g .n ≤ length (g .lost) → g .first + g .count ≤ length (g .lit) → LongHalf (g .n) l → enoughIn? g work l ≡ true
+unfolding enoughIn?
+enough-so g work l n count others first other long on lights three =
     and-in (and-in (and-in (and-in (and-in (and-in (and-in (and-in (and-in (and-in
     (le-leb _ _ n) (le-leb _ _ count)) (le-leb _ _ others)) (le-leb _ _ first)) (le-leb _ _ other))
     (le-leb _ _ long)) (le-leb _ _ on)) (le-leb _ _ lights))
@@ -81,14 +81,14 @@ readings-long : (shot : List ℕ) → 2048 ≤ length shot → 1024 ≤ length (
 unfolding readingsOf
 readings-long shot h = omega (arith, length-drop 1024 shot)
 
-pub both-fit : (z : Sizes) (budget limit : ℕ) (l : Lists) (window work : ℕ) (six : Six) → InRange (z .n) (z .x) (z .z) → LongLists l window work
-    → LongHalf (z .n) (six .x) → LongHalf (z .n) (six .z) → BothFit z budget limit l work six
-both-fit z budget limit l window work six m o x-long z-long =
+pub both-enough : (z : Sizes) (budget limit : ℕ) (l : Lists) (window work : ℕ) (six : Six) → InRange (z .n) (z .x) (z .z) → LongLists l window work
+    → LongHalf (z .n) (six .x) → LongHalf (z .n) (six .z) → BothEnough z budget limit l work six
+both-enough z budget limit l window work six m o x-long z-long =
     let rows = readings-long (l .shot) (o .shot) in
     let on : z .n ≤ length (l .shot) = omega (arith, m .qubits, o .shot) in
     record {
-      x = fits-so (givenOf X z l budget limit) work (six .x) (m .qubits) (m .zs) (m .xs) (m .xs) (omega arith) (o .work) on (omega (arith, m .xs, m .zs)) x-long;
-      z = fits-so (givenOf Z z l budget limit) work (six .z) (m .qubits) (m .xs) (m .zs) (omega arith) (m .xs) (o .work) on (omega (arith, m .xs)) z-long;
+      x = enough-so (givenOf X z l budget limit) work (six .x) (m .qubits) (m .zs) (m .xs) (m .xs) (omega arith) (o .work) on (omega (arith, m .xs, m .zs)) x-long;
+      z = enough-so (givenOf Z z l budget limit) work (six .z) (m .qubits) (m .xs) (m .zs) (omega arith) (m .xs) (o .work) on (omega (arith, m .xs)) z-long;
     }
 
 ----------------------------------------------------------------------

@@ -1,8 +1,8 @@
 -- What a decode does, beside the promise of its record.
 --   readingsOf  the part of the shot's list that has the rows' elements
 --   givenOf     what a half is decoded from: X errors from the Z rows, Z errors from the X rows
---   undecoded   what is reported of a half whose sizes or lists do not fit; reportIn: of any answer
---   BothFit     both halves are decoded
+--   undecoded   what is reported of a half that is refused, since a size is out of range or a list too short; reportIn: of any answer
+--   BothEnough     both halves are decoded
 --   Reports     what the decode of both halves does
 --   Replies     the reply to it, and what it leaves in the window
 use mathlib.Core.Path.{_≡_}
@@ -17,7 +17,7 @@ use Rattle.machine.specs.Lists.{Past, Shows, SameLengths}
 use Rattle.halves.specs.declared.HalfAnswer.{HalfAnswer}
 use Rattle.halves.specs.Lists.{halfOf}
 use Rattle.halves.specs.Starts.{RowsObey}
-use Rattle.halves.specs.Decode.{Given, ownRows, fitting}
+use Rattle.halves.specs.Decode.{Given, ownRows, enoughIn?}
 use Rattle.records.specs.declared.Sizes.{Sizes}
 use Rattle.records.specs.declared.State.{State}
 use Rattle.records.specs.declared.Report.{Report}
@@ -70,9 +70,9 @@ givenOf p z l budget limit = givenBy p z l (readingsOf (l .shot)) budget limit
 abbrev pub shownOf : Given → Shown
 shownOf g = outcome (halfOf (g .n) (g .flat) (g .ends) (g .lost) (g .lit) (g .first) (g .count) (g .other) (g .others)) (g .budget) (g .limit)
 
-pub record BothFit (sizes : Sizes) (budget limit : ℕ) (l : Lists) (work : ℕ) (six : Six) : Type 0 where
-  pub x : fitting (givenOf X sizes l budget limit) work (six .x) ≡ true
-  pub z : fitting (givenOf Z sizes l budget limit) work (six .z) ≡ true
+pub record BothEnough (sizes : Sizes) (budget limit : ℕ) (l : Lists) (work : ℕ) (six : Six) : Type 0 where
+  pub x : enoughIn? (givenOf X sizes l budget limit) work (six .x) ≡ true
+  pub z : enoughIn? (givenOf Z sizes l budget limit) work (six .z) ≡ true
 
 -- Stopped before its first turn. No decode that is not refused meets it.
 abbrev pub undecoded : HalfReport
@@ -92,9 +92,9 @@ pub record Reports (z : Sizes) (budget limit : ℕ) (l : Lists) (work work′ : 
   pub z-long : SameLengths (old .z) (new .z)
   pub x-past : Past (z .n) (old .x) (new .x)
   pub z-past : Past (z .n) (old .z) (new .z)
-  pub x-unfit : fitting (givenOf X z l budget limit) (length work) (old .x) ≡ false → r .x ≡ undecoded
-  pub z-unfit : fitting (givenOf Z z l budget limit) (length work) (old .z) ≡ false → r .z ≡ undecoded
-  pub decoded : BothFit z budget limit l (length work) old → Obeying (givenOf X z l budget limit) → Obeying (givenOf Z z l budget limit)
+  pub x-refused : enoughIn? (givenOf X z l budget limit) (length work) (old .x) ≡ false → r .x ≡ undecoded
+  pub z-refused : enoughIn? (givenOf Z z l budget limit) (length work) (old .z) ≡ false → r .z ≡ undecoded
+  pub decoded : BothEnough z budget limit l (length work) old → Obeying (givenOf X z l budget limit) → Obeying (givenOf Z z l budget limit)
       → (r ≡ record { x = shownOf (givenOf X z l budget limit) .report; z = shownOf (givenOf Z z l budget limit) .report })
       × Shows (z .n) (shownOf (givenOf X z l budget limit)) (old .x) (new .x)
       × Shows (z .n) (shownOf (givenOf Z z l budget limit)) (old .z) (new .z)

@@ -34,7 +34,7 @@ fn readings<'a>(shot: &'a [u8]) -> &'a [u8]
     &shot[from..end]
 }
 
-// What is reported of a half. One whose sizes or lists do not fit is told as stopped before its first turn.
+// What is reported of a half. One that is refused is told as stopped before its first turn.
 fn report_in(answer: HalfAnswer) -> HalfReport
     ensures { λ r. ⌜ r ≡ reportIn answer ⌝ }
 {

@@ -16,7 +16,7 @@ use Rattle.binary.proofs.WordBits.{order}
 use Rattle.lists.specs.Cleared.{Cleared}
 use Rattle.bitsets.specs.Bitsets.{inSet, Flipped}
 use Rattle.code.specs.Lists.{rowAt}
-use Rattle.code.proofs.Order.{Distinct}
+use Rattle.code.specs.Tests.{Distinct}
 use Rattle.incidence.specs.Incidence.{slot, numberOn, rowsOn}
 use Rattle.machine.specs.Machine.{isOpen, put, part}
 use Rattle.machine.specs.Lists.{view}
@@ -26,7 +26,7 @@ use Rattle.kept.specs.Kept.{rowIn, Raised, Finds}
 use Rattle.kept.proofs.Same.{set-same, set-none, kept-by, rows-same}
 use Rattle.kept.proofs.Raising.{Raising, raising-start, raising-pass, raising-row, raising-end}
 use Rattle.filling.proofs.OpenBelow.{part-none, openBelow, below-none, below-own, below-inside, below-pass, below-put, below-all}
-use Rattle.filling.specs.Filling.{ReadAs, RowPut, CountedWith, RowsPut, QubitKept, QubitsKept}
+use Rattle.filling.specs.Filling.{Beyond, ReadAs, RowPut, CountedWith, RowsPut, QubitKept, QubitsKept}
 
 ----------------------------------------------------------------------
 -- A row on a qubit
@@ -47,7 +47,7 @@ module _ (first count : ℕ) (lit : List ℕ) (r : ℕ) where
 
 module _ (q r first count : ℕ) (lit old : List ℕ) where
   pub row-passed : Other first count lit r → RowPut q r first count lit old old
-  row-passed f = record { long = refl; puts = λ i a. absurd (f i a); passes = λ g. refl }
+  row-passed f = record { long = refl; puts = λ i a. absurd (f i a); passes = λ g. refl; past = λ small k h. refl }
 
   pub row-put : first ≤ r → r - first < count → read? lit r ≡ true → (mid new : List ℕ) → Flipped q (r - first) old mid → Raised (r - first) mid new
       → RowPut q r first count lit old new
@@ -58,6 +58,7 @@ module _ (q r first count : ℕ) (lit old : List ℕ) where
             let d : r - first ≡ i = omega (arith, a .is) in
             (mid, subst (λ (x : ℕ). Flipped q x old mid) d flip, subst (λ (x : ℕ). Raised x mid new) d raise);
         passes = λ f. absurd (f (r - first) (record { is = omega arith; within = m; read = t }));
+        past = λ small k h. raise .past k h ∙ flip .beyond k (omega arith);
       }
 
 ----------------------------------------------------------------------
@@ -109,6 +110,7 @@ pub record Putting (q : ℕ) (on : List ℕ) (first count : ℕ) (lit work₀ : 
   pub long : length work ≡ length work₀
   pub so : (n : ℕ) (flat ends : List ℕ) (o : Qubits) → let c = rowsIn flat ends first count lit in Given n q on c o work₀
       → (0 < count → Distinct (drop k on)) × Raising c q o (λ j. has (drop k on) (first + j)) work
+  pub past : q < 1024 → Beyond work₀ work
 
 module _ (q : ℕ) (on : List ℕ) (first count : ℕ) (lit work₀ : List ℕ) (few : count ≤ 512) (room : 9216 ≤ length work₀) where
   abbrev rows : List ℕ → List ℕ → RowLists
@@ -134,7 +136,7 @@ module _ (q : ℕ) (on : List ℕ) (first count : ℕ) (lit work₀ : List ℕ) 
         raising-start n (rows flat ends) q o (g .size) few (g .good .ascending) on-inside (g .shut) (later on) work₀ (g .counted .0) (g .counted .1) (g .empty) are
 
   pub putting-start : Putting q on first count lit work₀ 0 work₀
-  putting-start = record { long = refl; so = λ n flat ends o g. (distinct n flat ends o g, raising-begun n flat ends o g) }
+  putting-start = record { long = refl; so = λ n flat ends o g. (distinct n flat ends o g, raising-begun n flat ends o g); past = λ small k h. refl }
 
   module _ (k : ℕ) (work : List ℕ) (s : Putting q on first count lit work₀ k work) where
     -- The row at place k.
@@ -179,6 +181,7 @@ module _ (q : ℕ) (on : List ℕ) (first count : ℕ) (lit work₀ : List ℕ) 
           record {
             long = v .long ∙ s .long;
             so = λ n flat ends o g. ((λ h. left n flat ends o g h .1), ⊎-elim (raising-own n flat ends o g) (raising-other n flat ends o g) (own-or-other first count lit r));
+            past = λ small j h. v .past small j h ∙ s .past small j h;
           }
 
     pub putting-end : length on ≤ k → (old : List ℕ) → Cleared (8 * q) (8 * q + 8) old work₀ → RowsPut q on first count lit old work
@@ -189,6 +192,7 @@ module _ (q : ℕ) (on : List ℕ) (first count : ℕ) (lit work₀ : List ℕ) 
               let g = given n q on (rows flat ends) o old work₀ few size small good listed same inside shut counted v in
               raising-end n (rows flat ends) q o size few (good .ascending) (on-inside n flat ends o g) shut (later (drop k on)) work (s .so n flat ends o g .1)
               (λ j h. rw (drop-of-length-le on l));
+          past = λ small j h. s .past small j h ∙ v .outside j (inr (omega arith));
         }
 
 ----------------------------------------------------------------------
@@ -201,19 +205,20 @@ rows-part q ends = let e : slot q + 1 + numberOn ends q - (slot q + 1) ≡ numbe
 
 module _ (q : ℕ) (ends : List ℕ) (first count : ℕ) (lit work₀ : List ℕ) where
   pub qubit-not : QubitKept q ends first count lit work₀ work₀ false
-  qubit-not = record { long = refl; opens = λ t. never t refl }
+  qubit-not = record { long = refl; opens = λ t. never t refl; past = λ small k h. refl }
 
   pub qubit-kept : (on : List ℕ) → on ≡ rowsOn ends q → numberOn ends q ≤ 14 → (work : List ℕ) → RowsPut q on first count lit work₀ work → QubitKept q ends first count lit work₀ work true
-  qubit-kept on same listed work v = record { long = v .long; opens = λ t flat. v .opens flat ends listed same }
+  qubit-kept on same listed work v = record { long = v .long; opens = λ t flat. v .opens flat ends listed same; past = v .past }
 
 -- Where it is told that not all rows are listed.
-pub qubits-not : (n : ℕ) (ends : List ℕ) (first count : ℕ) (lit marks old new : List ℕ) → length new ≡ length old → QubitsKept n ends first count lit marks old new false
-qubits-not n ends first count lit marks old new e = record { long = e; kept = λ t. never t refl }
+pub qubits-not : (n : ℕ) (ends : List ℕ) (first count : ℕ) (lit marks old new : List ℕ) → length new ≡ length old → Beyond old new → QubitsKept n ends first count lit marks old new false
+qubits-not n ends first count lit marks old new e p = record { long = e; kept = λ t. never t refl; past = p }
 
 -- With the open qubits below q.
 pub record Reached (n : ℕ) (ends : List ℕ) (first count : ℕ) (lit marks work₀ : List ℕ) (q : ℕ) (work : List ℕ) : Type 0 where
   pub long : length work ≡ length work₀
   pub so : (flat : List ℕ) → let c = rowsIn flat ends first count lit in GoodRows n c → CountedWith (openBelow (isOpen (view n marks)) q) c work
+  pub past : Beyond work₀ work
 
 module _ (n : ℕ) (ends : List ℕ) (first count : ℕ) (lit marks work₀ : List ℕ) (size : n ≤ 1024) (few : count ≤ 512) where
   abbrev o : Qubits
@@ -231,11 +236,12 @@ module _ (n : ℕ) (ends : List ℕ) (first count : ℕ) (lit marks work₀ : Li
           (λ i h. v .inside (8704 + i) (omega arith) (omega arith) ∙ sym (ap length (none-yet (rowIn (rowsIn flat ends first count lit) i)))),
           record { on = λ p i t h. never t (ap (λ (s : Qubits). s p) (below-none o)) },
         );
+        past = λ k h. refl;
       }
 
   module _ (q : ℕ) (work : List ℕ) (s : Reached n ends first count lit marks work₀ q work) where
     pub reached-shut : q < n → (getD marks q 0 ≡ 4 → ⊥) → Reached n ends first count lit marks work₀ (q + 1) work
-    reached-shut h mark = record { long = s .long; so = λ flat good. subst (λ (x : Qubits). CountedWith x (rowsIn flat ends first count lit) work) (below-pass o q e) (s .so flat good) }
+    reached-shut h mark = record { long = s .long; so = λ flat good. subst (λ (x : Qubits). CountedWith x (rowsIn flat ends first count lit) work) (below-pass o q e) (s .so flat good); past = s .past }
       where
         e : o q ≡ false
         e = sym (open-read n marks q h) ∙ ne-eqb (getD marks q 0) 4 mark
@@ -248,19 +254,25 @@ module _ (n : ℕ) (ends : List ℕ) (first count : ℕ) (lit marks work₀ : Li
           so = λ flat good.
               subst (λ (x : Qubits). CountedWith x (rowsIn flat ends first count lit) work′) (below-put o q e)
               (v .opens is-told flat n size h good (openBelow o q) (below-inside o q n (omega arith)) (below-own o q) (s .so flat good));
+          past = λ k l. v .past (omega arith) k l ∙ s .past k l;
         }
       where
         e : o q ≡ true
         e = sym (open-read n marks q h) ∙ eq-eqb (getD marks q 0) 4 mark
 
-    pub reached-all : n ≤ q → (old new : List ℕ) → 9216 ≤ length old → length work₀ ≡ length old → Finds count work new → QubitsKept n ends first count lit marks old new true
+    -- What is left of the list before the numbers were cleared.
+    pub reached-past : (old : List ℕ) → Cleared 8704 (8704 + count) old work₀ → Beyond old work
+    reached-past old v k l = s .past k l ∙ v .outside k (inr (omega arith))
+
+    pub reached-all : n ≤ q → (old new : List ℕ) → 9216 ≤ length old → Cleared 8704 (8704 + count) old work₀ → Finds count work new → QubitsKept n ends first count lit marks old new true
     reached-all h old new room e v =
         record {
-          long = v .long ∙ s .long ∙ e;
+          long = v .long ∙ s .long ∙ e .long;
+          past = λ k l. v .beyond k (omega arith) ∙ reached-past old e k l;
           kept = λ t flat good.
               let c = rowsIn flat ends first count lit in
               let all = subst (λ (x : Qubits). CountedWith x c work) (below-all o q (λ p l. sym (open-past n marks p (omega arith)))) (s .so flat good) in (
-                kept-by o c new (λ i l. v .beyond (8704 + i) (omega arith) ∙ all .0 i l) (v .tallied (omega (arith, s .long)) few),
+                kept-by o c new (λ i l. v .beyond (8704 + i) (omega arith) ∙ all .0 i l) (v .tallied (omega (arith, s .long, e .long)) few),
                 rows-same n o o c work new few (v .below) (λ p t. let l = open-below n marks p t in (t, omega arith)) (all .1),
               );
         }

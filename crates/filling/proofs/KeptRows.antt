@@ -1,7 +1,7 @@
 -- Everything kept of the rows, row by row. Assumes nothing.
 use mathlib.Core.Path.{_≡_, refl, sym, ap, ap₂, _∙_, subst}
 use mathlib.Core.Bool.{Bool, true, false, _&&_, _||_, cond}
-use mathlib.Core.Logic.{_⊎_, inl, ⊎-elim}
+use mathlib.Core.Logic.{_⊎_, inl, inr, ⊎-elim}
 use mathlib.Core.List.{List, [], _∷_}
 use Prim.Native.Nat.{ℕ, suc, _+_, _*_, _/_, _≤_, _<_}
 use native.Mathlib.Numerals.{add-one}
@@ -18,15 +18,15 @@ use Rattle.binary.proofs.WordBits.{order}
 use Rattle.lists.specs.Cleared.{Cleared}
 use Rattle.bitsets.specs.Bitsets.{inSet, Flipped}
 use Rattle.code.specs.Lists.{rowAt}
-use Rattle.code.specs.Tests.{Ascending}
-use Rattle.code.proofs.Order.{Distinct, ascending-distinct}
+use Rattle.code.specs.Tests.{Ascending, Distinct}
+use Rattle.code.proofs.Order.{ascending-distinct}
 use Rattle.machine.specs.Machine.{isOpen, part}
 use Rattle.machine.specs.Lists.{view}
 use Rattle.scans.specs.Rows.{RowLists, read?, GoodRows}
 use Rattle.scans.proofs.Scanning.{open-below}
 use Rattle.kept.specs.Kept.{rowIn, single?, Changed}
 use Rattle.kept.proofs.Same.{row-of, set-same, set-none}
-use Rattle.filling.specs.Filling.{Emptied, RowAdded, KeptTo}
+use Rattle.filling.specs.Filling.{Beyond, Emptied, RowAdded, KeptTo}
 
 ----------------------------------------------------------------------
 -- Sets emptied
@@ -35,17 +35,19 @@ use Rattle.filling.specs.Filling.{Emptied, RowAdded, KeptTo}
 pub record Emptying (n : ℕ) (marks old : List ℕ) (q : ℕ) (work : List ℕ) : Type 0 where
   pub long : length work ≡ length old
   pub zeros : (p k : ℕ) → p < q → isOpen (view n marks) p ≡ true → 8 * p ≤ k → k < 8 * p + 8 → getD work k 0 ≡ 0
+  pub past : Beyond old work
 
 module _ (n : ℕ) (marks old : List ℕ) where
   pub emptying-start : Emptying n marks old 0 old
-  emptying-start = record { long = refl; zeros = λ p k h. absurd (omega arith) }
+  emptying-start = record { long = refl; zeros = λ p k h. absurd (omega arith); past = λ k h. refl }
 
   module _ (q : ℕ) (work : List ℕ) (so : Emptying n marks old q work) where
-    pub emptying-open : (work′ : List ℕ) → Cleared (8 * q) (8 * q + 8) work work′ → Emptying n marks old (q + 1) work′
-    emptying-open work′ c =
+    pub emptying-open : q < 1024 → (work′ : List ℕ) → Cleared (8 * q) (8 * q + 8) work work′ → Emptying n marks old (q + 1) work′
+    emptying-open small work′ c =
         record {
           long = c .long ∙ so .long;
           zeros = λ p k h e a b. ⊎-elim (λ (l : p < q). c .outside k (inl (omega arith)) ∙ so .zeros p k l e a b) (λ (l : q ≤ p). c .inside k (omega arith) (omega arith)) (order p q);
+          past = λ k h. c .outside k (inr (omega arith)) ∙ so .past k h;
         }
 
     pub emptying-not : isOpen (view n marks) q ≡ false → Emptying n marks old (q + 1) work
@@ -54,6 +56,7 @@ module _ (n : ℕ) (marks old : List ℕ) where
           long = so .long;
           zeros = λ p k h t a b.
               ⊎-elim (λ (l : p < q). so .zeros p k l t a b) (λ (l : q ≤ p). let same : p ≡ q = omega arith in never (subst (λ (x : ℕ). isOpen (view n marks) x ≡ true) same t) e) (order p q);
+          past = so .past;
         }
 
     pub emptying-end : n ≤ q → n ≤ 1024 → (new : List ℕ) → Cleared 8192 8201 work new → Emptied n marks old new
@@ -65,6 +68,7 @@ module _ (n : ℕ) (marks old : List ℕ) where
               set-none new p j (c .outside (8 * p + j / 64) (inl (omega arith)) ∙ so .zeros p (8 * p + j / 64) (omega arith) e (omega arith) (omega arith));
           dangling = λ j l. set-none new 1024 j (c .inside (8 * 1024 + j / 64) (omega arith) (omega arith));
           total = c .inside 8200 (omega arith) (omega arith);
+          past = λ k h. c .outside k (inr (omega arith)) ∙ so .past k h;
         }
 
 ----------------------------------------------------------------------
@@ -294,11 +298,14 @@ module _ (n i : ℕ) (c : RowLists) (marks old mid : List ℕ) (number : ℕ) (s
           (λ e. let s = eqb-true j i e in rw (not-yet j (has (rowIn c j) q) e, e, lt-ltb j (suc i) (omega arith), s))
           (λ e. rw (e, next j, e) (⊕-false (cond (ltb j i) (has (rowIn c j) q) false)))
 
-  pub kept-plain : (number ≡ 1 → ⊥) → (length written ≡ length old) × KeptTo (suc i) n c marks written
-  kept-plain e = (one-only e .long, kept-more written (one-only e))
+  written-past : Beyond old written
+  written-past k l = getD-set-other mid (8704 + i) k number 0 (λ e. omega arith) ∙ a .beyond k (omega arith)
 
-  pub kept-dangling : number ≡ 1 → (new : List ℕ) → Changed i true written new → (length new ≡ length old) × KeptTo (suc i) n c marks new
-  kept-dangling e new d = (changed-too e new d .long, kept-more new (changed-too e new d))
+  pub kept-plain : (number ≡ 1 → ⊥) → (length written ≡ length old) × Beyond old written × KeptTo (suc i) n c marks written
+  kept-plain e = (one-only e .long, written-past, kept-more written (one-only e))
+
+  pub kept-dangling : number ≡ 1 → (new : List ℕ) → Changed i true written new → (length new ≡ length old) × Beyond old new × KeptTo (suc i) n c marks new
+  kept-dangling e new d = (changed-too e new d .long, λ k l. d .beyond k (omega arith) ∙ written-past k l, kept-more new (changed-too e new d))
 
 pub kept-all : (i n : ℕ) (c : RowLists) (marks work : List ℕ) → KeptTo i n c marks work → i ≡ c .count → KeptTo (c .count) n c marks work
 kept-all i n c marks work k e = subst (λ (j : ℕ). KeptTo j n c marks work) e k

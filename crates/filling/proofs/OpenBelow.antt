@@ -7,14 +7,11 @@ use Prim.Native.Nat.{ℕ, _+_, _≤_, _<_}
 use native.Mathlib.Omega.{arith}
 use lib.Dec.{eqb}
 use borrow.Author.Tests.{eqb-true}
-use Rattle.binary.specs.Meaning.{Qubits, Row}
+use Rattle.binary.specs.Meaning.{Qubits, noQubit, Row}
 use Rattle.binary.proofs.Bits.{bit, never}
 use Rattle.binary.proofs.UpTo.{upTo, up-below, up-from, up-pass, up-on}
 use Rattle.binary.proofs.WordBits.{order}
 use Rattle.machine.specs.Machine.{put, part}
-
-abbrev pub noQubit : Qubits
-noQubit p = false
 
 pub part-none : (r : Row) → part noQubit r ≡ []
 part-none [] = refl

@@ -3,7 +3,7 @@ ghost use mathlib.Core.Path.{_≡_};
 ghost use mathlib.Core.List.{List};
 ghost use Prim.Native.Nat.{ℕ, suc, _+_, _≤_, _<_};
 ghost use lib.ListN.{length};
-ghost use Rattle.filling.specs.Filling.{Emptied, RowAdded, KeptTo, RowPut, RowsPut, QubitKept, QubitsKept, fits?, Fills};
+ghost use Rattle.filling.specs.Filling.{Beyond, Emptied, RowAdded, KeptTo, RowPut, RowsPut, QubitKept, QubitsKept, enough?, Fills};
 use code::KindRow;
 use code::Qubit;
 use code::Row;
@@ -55,7 +55,7 @@ fn keep_row(
 )
     requires { ⌜ (n ≤ 1024) × (rows .count ≤ 512) × (i .0 < rows .count) × (9216 ≤ length (now work)) × (rows .first .0 + rows .count ≤ length (now lit)) × (rows .first .0 + rows .count ≤ 1024) ⌝ }
     requires { ⌜ KeptTo (i .0) n (record { flat = now flat; ends = now ends; lit = now lit; first = rows .first .0; count = rows .count }) (now marks) (now work) ⌝ }
-    ensures { λ _. ⌜ (length (now (work .exit)) ≡ length (now (work .entry))) × KeptTo (suc (i .0)) n (record { flat = now (flat .entry); ends = now (ends .entry); lit = now (lit .entry); first = rows .first .0; count = rows .count }) (now (marks .entry)) (now (work .exit)) ⌝ }
+    ensures { λ _. ⌜ (length (now (work .exit)) ≡ length (now (work .entry))) × Beyond (now (work .entry)) (now (work .exit)) × KeptTo (suc (i .0)) n (record { flat = now (flat .entry); ends = now (ends .entry); lit = now (lit .entry); first = rows .first .0; count = rows .count }) (now (marks .entry)) (now (work .exit)) ⌝ }
 {
     let first = rows.first;
     let row = scans::read_row(flat, ends, lit, Row(first.0 + i.0));
@@ -68,8 +68,8 @@ fn keep_row(
 }
 
 // Whether the sizes are document 01's and the lists long enough.
-fn fits(n: u16, lit: &[u8], rows: Rows, work: &[u64]) -> bool
-    ensures { λ r. ⌜ ((flat ends : List ℕ) → r ≡ fits? n (record { flat = flat; ends = ends; lit = now (lit .entry); first = rows .first .0; count = rows .count }) (length (now (work .entry)))) ⌝ }
+fn is_enough(n: u16, lit: &[u8], rows: Rows, work: &[u64]) -> bool
+    ensures { λ r. ⌜ ((flat ends : List ℕ) → r ≡ enough? n (record { flat = flat; ends = ends; lit = now (lit .entry); first = rows .first .0; count = rows .count }) (length (now (work .entry)))) ⌝ }
 {
     let first = rows.first;
     let last = first.0 as usize + rows.count as usize;
@@ -91,7 +91,7 @@ fn by_rows(
     work: &mut [u64],
 )
     requires { ⌜ (n ≤ 1024) × (rows .count ≤ 512) × (9216 ≤ length (now work)) × (rows .first .0 + rows .count ≤ length (now lit)) × (rows .first .0 + rows .count ≤ 1024) ⌝ }
-    ensures { λ _. ⌜ (length (now (work .exit)) ≡ length (now (work .entry))) × KeptTo (rows .count) n (record { flat = now (flat .entry); ends = now (ends .entry); lit = now (lit .entry); first = rows .first .0; count = rows .count }) (now (marks .entry)) (now (work .exit)) ⌝ }
+    ensures { λ _. ⌜ (length (now (work .exit)) ≡ length (now (work .entry))) × Beyond (now (work .entry)) (now (work .exit)) × KeptTo (rows .count) n (record { flat = now (flat .entry); ends = now (ends .entry); lit = now (lit .entry); first = rows .first .0; count = rows .count }) (now (marks .entry)) (now (work .exit)) ⌝ }
 {
     let count = rows.count;
     empty_sets(n, marks, work);
@@ -187,7 +187,7 @@ pub fn fill(
 )
     ensures { λ _. ⌜ Fills n (record { flat = now (flat .entry); ends = now (ends .entry); lit = now (lit .entry); first = rows .first .0; count = rows .count }) (now (marks .entry)) (now (work .entry)) (now (work .exit)) ⌝ }
 {
-    if !fits(n, lit, rows, work) {
+    if !is_enough(n, lit, rows, work) {
         return;
     }
     let size = n as usize;

@@ -11,7 +11,8 @@ use lib.ListN.{length, getD, set, drop, drop-of-length-le, length-set}
 use lib.Seq.{drop-cons, getD-set-same, getD-set-other}
 use Rattle.binary.specs.Meaning.{has}
 use Rattle.binary.proofs.Bits.{bit}
-use Rattle.code.proofs.Order.{Distinct, ascending-distinct}
+use Rattle.code.specs.Tests.{Distinct}
+use Rattle.code.proofs.Order.{ascending-distinct}
 use Rattle.guessing.specs.Guessing.{weightOf, shareOf, changeOf, addedAt, WeightsAlone, AddedRow}
 
 pub alone-same : (n : ℕ) (work : List ℕ) → WeightsAlone n work work

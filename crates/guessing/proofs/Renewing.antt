@@ -18,8 +18,7 @@ use Rattle.code.specs.Lists.{rowAt}
 use Rattle.code.specs.Tests.{Ascending}
 use Rattle.code.proofs.Order.{ascending-distinct}
 use Rattle.machine.specs.Machine.{put, part}
-use Rattle.scans.specs.Rows.{RowLists, rowsIn, GoodRows}
-use Rattle.scans.proofs.Checks.{here, was-read}
+use Rattle.scans.specs.Rows.{RowLists, rowsIn, checkIn, readIn?, GoodRows}
 use Rattle.kept.specs.Kept.{rowIn, openIn, Kept, RowsOn}
 use Rattle.kept.proofs.Same.{row-of}
 use Rattle.kept.proofs.Lowering.{not-has, one-less, has-none}
@@ -66,16 +65,16 @@ module _ (n : ℕ) (c : RowLists) (p : ℕ) (o : Qubits) (work₀ : List ℕ) (f
 
   -- Row i, which is on the qubit.
   module _ (i : ℕ) (h : i < c .count) (found : inSet work₀ p i ≡ true) (left : ℕ) (is : left ≡ openIn o′ c i) (q x : ℕ) (e : x ≡ mixedWeight i q) where
-    on-it : (was-read c i ≡ true) × (has (here c i .row) p ≡ true)
-    on-it = has-none (was-read c i) (here c i .row) p (sym (g .on .on p i (g .open-p) h) ∙ found)
+    on-it : (readIn? c i ≡ true) × (has (checkIn c i .row) p ≡ true)
+    on-it = has-none (readIn? c i) (checkIn c i .row) p (sym (g .on .on p i (g .open-p) h) ∙ found)
 
-    row-is : rowIn c i ≡ here c i .row
+    row-is : rowIn c i ≡ checkIn c i .row
     row-is = rw (on-it .0)
 
     was : openIn o c i ≡ suc left
     was =
-        let d = ascending-distinct n (here c i .row) (row-of (Ascending n) (c .flat) (c .ends) (c .first) (c .count) i h (g .good .ascending)) in
-        ap (λ (r : Row). length (part o r)) row-is ∙ one-less o p (here c i .row) d (g .open-p) (on-it .1)
+        let d = ascending-distinct n (checkIn c i .row) (row-of (Ascending n) (c .flat) (c .ends) (c .first) (c .count) i h (g .good .ascending)) in
+        ap (λ (r : Row). length (part o r)) row-is ∙ one-less o p (checkIn c i .row) d (g .open-p) (on-it .1)
         ∙ ap suc (sym (is ∙ ap (λ (r : Row). length (part o′ r)) row-is))
 
     abbrev A : ℕ
@@ -87,14 +86,14 @@ module _ (n : ℕ) (c : RowLists) (p : ℕ) (o : Qubits) (work₀ : List ℕ) (f
     abbrev B : ℕ
     B = tally (c .count) (hasIn c q)
 
-    before-it : mixed i q i ≡ (eqb (suc left) 2 && has (here c i .row) q)
+    before-it : mixed i q i ≡ (eqb (suc left) 2 && has (checkIn c i .row) q)
     before-it = up-from (pairIn o′ c q) (pairIn o c q) i i (omega arith) ∙ rw (was, row-is)
 
-    after-it : mixed (i + 1) q i ≡ (eqb left 2 && has (here c i .row) q)
+    after-it : mixed (i + 1) q i ≡ (eqb left 2 && has (checkIn c i .row) q)
     after-it = up-below (pairIn o′ c q) (pairIn o c q) (i + 1) i (omega arith) ∙ rw (← is, row-is)
 
     -- The row was counted as one with two open qubits, or is.
-    changed : A′ + cond (eqb (suc left) 2 && has (here c i .row) q) 1 0 ≡ A + cond (eqb left 2 && has (here c i .row) q) 1 0
+    changed : A′ + cond (eqb (suc left) 2 && has (checkIn c i .row) q) 1 0 ≡ A + cond (eqb left 2 && has (checkIn c i .row) q) 1 0
     changed =
         let z = tally-change (c .count) i (mixed i q) (mixed (i + 1) q) h (λ j d l. up-on (pairIn o′ c q) (pairIn o c q) i j (ne-eqb i j (λ u. d (sym u)))) in
         rw (← before-it, ← after-it) z
@@ -102,8 +101,8 @@ module _ (n : ℕ) (c : RowLists) (p : ℕ) (o : Qubits) (work₀ : List ℕ) (f
     small : x < 1048576
     small = let z = weight-small o c q (c .count) (c .count) few few (mixed i q) in omega arith
 
-    pub mixed-row : addedAt (changeOf left) (has (here c i .row) q) x ≡ mixedWeight (i + 1) q
-    mixed-row = by (has (here c i .row) q) A′ changed
+    pub mixed-row : addedAt (changeOf left) (has (checkIn c i .row) q) x ≡ mixedWeight (i + 1) q
+    mixed-row = by (has (checkIn c i .row) q) A′ changed
       where
         none : (b : Bool) → cond {A = ℕ} (b && false) 1 0 ≡ 0
         none true = refl

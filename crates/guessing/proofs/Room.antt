@@ -1,4 +1,4 @@
--- Sizes and lists that fit. Assumes nothing.
+-- Sizes in range and lists long enough. Assumes nothing.
 use mathlib.Core.Path.{_≡_, refl, sym, _∙_}
 use mathlib.Core.Bool.{Bool, true, false, _&&_}
 use mathlib.Core.List.{List}
@@ -34,7 +34,7 @@ module _ (n : ℕ) (flat ends : List ℕ) (first count : ℕ) (work : List ℕ) 
   pub renews-not : told ≡ false → (p : ℕ) → Renews n flat ends first count p work work
   renews-not f p = record { refused = λ u. refl; renews = λ t. never t (sym tells ∙ f) }
 
--- Of sizes and a list that fit.
+-- Of sizes in range and a list long enough.
 pub does-weigh : (n first count : ℕ) (work : List ℕ) → n ≤ 1024 → count ≤ 512 → first + count ≤ 1024 → 10240 ≤ length work → weighable? n first count (length work) ≡ true
 unfolding weighable?
 does-weigh n first count work a b d e = rw (le-leb n 1024 a, le-leb count 512 b, le-leb (first + count) 1024 d, le-leb 10240 (length work) e)
@@ -55,7 +55,7 @@ module _ (n : ℕ) (marks work : List ℕ) (told : Bool) (tells : told ≡ namab
   unfolding heaviest
   unnamed f = rw (← tells, f) refl
 
--- Of sizes and lists that fit.
+-- Of sizes in range and lists long enough.
 pub named-as : (n : ℕ) (marks work : List ℕ) (r : Choice) → n ≤ 1024 → n ≤ length marks → 10240 ≤ length work → r ≡ heaviest n marks work
     → r ≡ choiceOf (best (lighter work) n (isOpen (view n marks)))
 unfolding heaviest namable?

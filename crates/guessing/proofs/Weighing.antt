@@ -17,8 +17,7 @@ use Rattle.code.specs.Lists.{rowAt}
 use Rattle.code.specs.Tests.{Ascending}
 use Rattle.lists.specs.Cleared.{Cleared}
 use Rattle.machine.specs.Machine.{keepIf, part, empty?, pair?, passing, degree}
-use Rattle.scans.specs.Rows.{RowLists, rowsIn, checkAt, read?, checksFrom, rowChecks, GoodRows}
-use Rattle.scans.proofs.Checks.{here, was-read}
+use Rattle.scans.specs.Rows.{RowLists, rowsIn, checkAt, checkIn, read?, readIn?, checksFrom, rowChecks, GoodRows}
 use Rattle.kept.specs.Kept.{rowIn, openIn, Kept}
 use Rattle.kept.proofs.Same.{row-of, kept-same}
 use Rattle.kept.proofs.Lowering.{has-open}
@@ -58,7 +57,7 @@ passing-tally t flat ends lit r (suc k) =
 
 pub degree-tally : (c : RowLists) (q : ℕ) → degree (rowChecks c) q ≡ tally (c .count) (hasIn c q)
 degree-tally c q =
-    passing-tally (λ d. has (d .row) q) (c .flat) (c .ends) (c .lit) (c .first) (c .count) ∙ tally-same (c .count) (hasIn c q) _ (λ i l. held (was-read c i) (here c i .row))
+    passing-tally (λ d. has (d .row) q) (c .flat) (c .ends) (c .lit) (c .first) (c .count) ∙ tally-same (c .count) (hasIn c q) _ (λ i l. held (readIn? c i) (checkIn c i .row))
   where
     held : (b : Bool) (row : Row) → (b && has row q) ≡ has (cond b row []) q
     held true row = refl
@@ -72,7 +71,7 @@ module _ (o : Qubits) (c : RowLists) (q : ℕ) where
   pub weight-tally : weight o (rowChecks c) q ≡ 1024 * tally (c .count) (pairIn o c q) + tally (c .count) (hasIn c q)
   weight-tally =
       ap₂ (λ (x y : ℕ). 1024 * x + y)
-      (passing-tally (λ d. pair? o d && has (d .row) q) (c .flat) (c .ends) (c .lit) (c .first) (c .count) ∙ tally-same (c .count) (pairIn o c q) _ (λ i l. paired (was-read c i) (here c i .row)))
+      (passing-tally (λ d. pair? o d && has (d .row) q) (c .flat) (c .ends) (c .lit) (c .first) (c .count) ∙ tally-same (c .count) (pairIn o c q) _ (λ i l. paired (readIn? c i) (checkIn c i .row)))
       (degree-tally c q)
     where
       paired : (b : Bool) (row : Row) → (b && (eqb (length (part o row)) 2 && has row q)) ≡ (eqb (length (part o (cond b row []))) 2 && has (cond b row []) q)
@@ -143,6 +142,6 @@ module _ (n : ℕ) (flat ends : List ℕ) (first count : ℕ) (work₀ work : Li
         let small = weight-small o c q i i (omega arith) (omega arith) (pairIn o c q) in
         rw (add-one i)
         (v .added (row-of (Ascending n) flat ends first count i h (good .ascending)) q (inside q t) (omega arith) ∙ ap (λ (s : ℕ). addedAt s (has (rowAt flat ends (first + i)) q) (weightOf work q)) e
-        ∙ shared o q t number (was-read c i) (rowAt flat ends (first + i)) (tally i (pairIn o c q)) (tally i (hasIn c q)) (weightOf work q)
+        ∙ shared o q t number (readIn? c i) (rowAt flat ends (first + i)) (tally i (pairIn o c q)) (tally i (hasIn c q)) (weightOf work q)
         (is ∙ a .alone .below (8704 + i) (omega arith) ∙ k .counts i h) old (omega arith));
   }

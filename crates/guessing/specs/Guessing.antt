@@ -78,7 +78,7 @@ pub record RenewedRows (n : ℕ) (flat ends : List ℕ) (first count p : ℕ) (w
 unfoldable pub weighable? : ℕ → ℕ → ℕ → ℕ → Bool
 weighable? n first count work = leb n 1024 && leb count 512 && leb (first + count) 1024 && leb 10240 work
 
--- Where sizes and the list fit; otherwise nothing is written.
+-- Where sizes are in range and the list long enough; otherwise nothing is written.
 pub record Weighs (n : ℕ) (flat ends : List ℕ) (first count : ℕ) (work work′ : List ℕ) : Type 0 where
   pub refused : weighable? n first count (length work) ≡ false → work′ ≡ work
   pub weighs : weighable? n first count (length work) ≡ true → WeighedRows n flat ends first count work work′

@@ -121,7 +121,7 @@ fn can_weigh(n: usize, rows: Rows, work: &[u64]) -> bool
     (n <= 1024) & (rows.count <= 512) & (last <= 1024) & (10240 <= work.len())
 }
 
-// The weights counted, from what is kept of the rows. Nothing is written where sizes or the list do not fit.
+// The weights counted, from what is kept of the rows. Nothing is written where a size is out of range or the list too short.
 pub fn weigh(n: usize, flat: &[u16], ends: &[u16], rows: Rows, work: &mut [u64])
     ensures { λ _. ⌜ Weighs n (now (flat .entry)) (now (ends .entry)) (rows .first .0) (rows .count) (now (work .entry)) (now (work .exit)) ⌝ }
 {
@@ -130,7 +130,7 @@ pub fn weigh(n: usize, flat: &[u16], ends: &[u16], rows: Rows, work: &mut [u64])
     }
 }
 
-// The weights after qubit p is settled, and what is kept of the rows is without it. Nothing is written where sizes or the list do not fit.
+// The weights after qubit p is settled, and what is kept of the rows is without it. Nothing is written where a size is out of range or the list too short.
 pub fn renew(n: usize, flat: &[u16], ends: &[u16], rows: Rows, p: Qubit, work: &mut [u64])
     ensures { λ _. ⌜ Renews n (now (flat .entry)) (now (ends .entry)) (rows .first .0) (rows .count) (p .0) (now (work .entry)) (now (work .exit)) ⌝ }
 {
@@ -170,7 +170,7 @@ fn can_name(n: u16, marks: &[u8], work: &[u64]) -> bool
     (n <= 1024) & (n as usize <= marks.len()) & (10240 <= work.len())
 }
 
-// The open qubit of the largest weight, the lowest of equals; none where sizes or lists do not fit.
+// The open qubit of the largest weight, the lowest of equals; none where a size is out of range or a list too short.
 pub fn most_open(n: u16, marks: &[u8], work: &[u64]) -> Choice
     ensures { λ r. ⌜ r ≡ heaviest n (now (marks .entry)) (now (work .entry)) ⌝ }
 {

@@ -23,12 +23,14 @@ use Rattle.machine.specs.Fillings.{filling}
 use Rattle.machine.specs.Report.{none?, shown}
 use Rattle.machine.specs.Lists.{view, formOf, HalfLists, digit, Shows, Past}
 use Rattle.machine.proofs.FormWords.{form-in, form-out, form-first, first-digit}
-use Rattle.halves.specs.Decode.{Given, ownRows, fitting, Decodes}
+use Rattle.halves.specs.Decode.{Given, ownRows, enoughIn?, Decodes}
 use Rattle.turns.specs.declared.RunAnswer.{RunAnswer}
 use Rattle.turns.specs.declared.RunAnswer.the-variants.{Over}
+use Rattle.turns.specs.declared.RunAnswer.the-variants as runs
 use Rattle.turns.specs.Turns.{Working, Stays, KeptOver}
 use Rattle.turns.specs.Runs.{Ran}
-use Rattle.halves.specs.Starts.{halfIn, HalfRan, Finished, fits?, RowsObey, HalfDone}
+use Rattle.turns.proofs.Marked.{enough-told}
+use Rattle.halves.specs.Starts.{halfIn, RowsObey, HalfRan, enough?, HalfRuns, Finished}
 use Rattle.machine.proofs.Values.{value-off}
 use Rattle.halves.proofs.Finishing.{not-none}
 
@@ -102,45 +104,16 @@ module _ (n : ℕ) (c : RowLists) (mid : Working) (correction : List ℕ) (new :
   unfolding shown
   ended-shows old past wide = record { marks = marks-shown; forms = forms-shown; words = λ i l. wide i; correction = flips-shown; past = past }
 
-pub half-done : (n : ℕ) (c : RowLists) (lost : List ℕ) (other others budget limit : ℕ) (old : Working) (correction : List ℕ) (mid : Working) (new : HalfLists) (a : RunAnswer) (r : HalfReport)
-    → HalfRan n c lost other others budget limit old mid a → a ≡ Over r → Finished n (r .word) (record { marks = mid .marks; forms = mid .forms; correction = correction }) new
-    → ((i : ℕ) → getD (new .forms) i 0 < 2 ^ 64)
-    → HalfDone n c lost other others budget limit (mid .work) (record { marks = old .marks; forms = old .forms; correction = correction }) new r
-unfolding shown
-half-done n c lost other others budget limit old correction mid new a r v told f wide =
-    record {
-      lengths = record {
-        marks = f .marks .long ∙ v .stays .marks-long;
-        forms = f .forms .long ∙ v .stays .forms-long;
-        correction = f .correction .long;
-      };
-      past = past;
-      shows = λ obey. let w = ran obey in (w .report, ended-shows n c mid correction new r e w f (record { marks = old .marks; forms = old .forms; correction = correction }) past wide);
-      kept = λ obey. ended-kept n c mid correction new r e (ran obey) f;
-    }
-  where
-    e : End
-    e = decoded (halfIn n c lost other others) budget limit
-
-    ran : RowsObey n c other others → Ran n c mid r e
-    ran obey =
-        let o = v .over in
-        let same : o .0 ≡ r = cc in
-        subst (λ (x : HalfReport). Ran n c mid x e) same (o .2 obey)
-
-    past : Past n (record { marks = old .marks; forms = old .forms; correction = correction }) new
-    past = past-stays n old correction mid (r .word) new (v .stays) f
-
 ----------------------------------------------------------------------
--- Sizes and lengths that fit
+-- Sizes in range and lists long enough
 
 module _ (n lost lit first count other others work marks forms correction : ℕ) where
   -- What the test says, in the order of its parts.
-  pub fits-out : fits? n lost lit first count other others work marks forms correction ≡ true
+  pub enough-out : enough? n lost lit first count other others work marks forms correction ≡ true
       → ((n ≤ 1024) × (count ≤ 512) × (others ≤ 512) × (first ≤ 512) × (other ≤ 512) × (10240 ≤ work))
       × ((n ≤ lost) × (first + count ≤ lit) × (n ≤ marks) × (4 * n ≤ forms) × (n ≤ correction))
-  unfolding fits?
-  fits-out t =
+  unfolding enough?
+  enough-out t =
       let a = and-out _ (leb n correction) t in
       let b = and-out _ (leb (4 * n) forms) (a .0) in
       let c = and-out _ (leb n marks) (b .0) in
@@ -155,38 +128,74 @@ module _ (n lost lit first count other others work marks forms correction : ℕ)
         (leb-true n lost (e .1), leb-true (first + count) lit (d .1), leb-true n marks (c .1), leb-true (4 * n) forms (b .1), leb-true n correction (a .1)),
       )
 
-pub fitting-is : (g : Given) (work : ℕ) (l : HalfLists) → fitting g work l
-    ≡ fits? (g .n) (length (g .lost)) (length (g .lit)) (g .first) (g .count) (g .other) (g .others) work (length (l .marks)) (length (l .forms)) (length (l .correction))
-unfolding fitting fits?
-fitting-is g work l = refl
+pub enough-is : (g : Given) (work : ℕ) (l : HalfLists) → enoughIn? g work l
+    ≡ enough? (g .n) (length (g .lost)) (length (g .lit)) (g .first) (g .count) (g .other) (g .others) work (length (l .marks)) (length (l .forms)) (length (l .correction))
+unfolding enoughIn? enough?
+enough-is g work l = refl
 
 ----------------------------------------------------------------------
 -- The promise
 
-module _ (g : Given) (work : List ℕ) (old : HalfLists) (told : Bool)
-    (tells : told ≡ fits? (g .n) (length (g .lost)) (length (g .lit)) (g .first) (g .count) (g .other) (g .others) (length work) (length (old .marks)) (length (old .forms)) (length (old .correction))) where
-  pub decodes-refused : told ≡ false → Decodes g work work old old Refused
+-- Where it is told to be enough, the half is run.
+pub half-runs : (n : ℕ) (c : RowLists) (lost : List ℕ) (other others budget limit : ℕ) (enough told : Bool) → told ≡ enough → not told ≡ false → (old new : Working) (a : RunAnswer)
+    → HalfRan n c lost other others budget limit old new a → HalfRuns n c lost other others budget limit enough old new a
+half-runs n c lost other others budget limit enough told tells e old new a v = record { stays = v .stays; refused = λ i. never (enough-told enough told tells e) i; over = λ i. v .over }
+
+module _ (g : Given) (work : List ℕ) (old : HalfLists) (mid : Working) (a : RunAnswer)
+    (v : HalfRuns (g .n) (ownRows g) (g .lost) (g .other) (g .others) (g .budget) (g .limit)
+    (enough? (g .n) (length (g .lost)) (length (g .lit)) (g .first) (g .count) (g .other) (g .others) (length work) (length (old .marks)) (length (old .forms)) (length (old .correction)))
+    (record { marks = old .marks; forms = old .forms; work = work }) mid a) where
+  -- It was run exactly where sizes are in range and lists long enough.
+  enough-not : a ≡ runs.Refused → enoughIn? g (length work) old ≡ false
+  enough-not e = cases (enoughIn? g (length work) old) (λ t. let o = v .over (sym (enough-is g (length work) old) ∙ t) in let z : _≡_ {A = ℕ} 0 1 = cc in absurd (omega arith)) (λ f. f)
+
+  enough-then : (r : HalfReport) → a ≡ Over r → enoughIn? g (length work) old ≡ true
+  enough-then r e = cases (enoughIn? g (length work) old) (λ t. t) (λ f. let o = v .refused (sym (enough-is g (length work) old) ∙ f) in let z : _≡_ {A = ℕ} 0 1 = cc in absurd (omega arith))
+
+  pub room-then : (r : HalfReport) → a ≡ Over r → (g .n ≤ length (mid .marks)) × (4 * g .n ≤ length (mid .forms)) × (g .n ≤ length (old .correction))
+  room-then r e = let f = enough-out _ _ _ _ _ _ _ _ _ _ _ (sym (enough-is g (length work) old) ∙ enough-then r e) .1 in let k = v .stays in (omega arith, omega arith, f .4)
+
+  pub decodes-refused : a ≡ runs.Refused → Decodes g work (mid .work) old (record { marks = mid .marks; forms = mid .forms; correction = old .correction }) Refused
   decodes-refused e =
-      record {
+      subst (λ (l : Working). Decodes g work (l .work) old (record { marks = l .marks; forms = l .forms; correction = old .correction }) Refused)
+      (sym (v .refused (sym (enough-is g (length work) old) ∙ enough-not e) .1))
+      (record {
         lengths = record { marks = refl; forms = refl; correction = refl };
         past = record { marks = λ q i. refl; forms = λ q i. refl; correction = λ q i. refl };
         work-long = refl;
         refused = λ i. (refl, refl, refl);
-        answered = λ i. never i (fitting-is g (length work) old ∙ sym tells ∙ e);
-        decoded = λ i. never i (fitting-is g (length work) old ∙ sym tells ∙ e);
-        kept = λ i. never i (fitting-is g (length work) old ∙ sym tells ∙ e);
-      }
+        answered = λ i. never i (enough-not e);
+        decoded = λ i. never i (enough-not e);
+        kept = λ i. never i (enough-not e);
+      })
 
-  pub decodes-done : told ≡ true → (work′ : List ℕ) (new : HalfLists) (r : HalfReport) → length work′ ≡ length work
-      → HalfDone (g .n) (ownRows g) (g .lost) (g .other) (g .others) (g .budget) (g .limit) work′ old new r
-      → Decodes g work work′ old new (Decoded r)
-  decodes-done e work′ new r long v =
-      record {
-        lengths = v .lengths;
-        past = v .past;
-        work-long = long;
-        refused = λ i. never (fitting-is g (length work) old ∙ sym tells ∙ e) i;
-        answered = λ i f. let z : _≡_ {A = ℕ} 0 1 = cc in omega arith;
-        decoded = λ i obey. let z = v .shows obey in (ap Decoded (z .0), z .1);
-        kept = λ i obey ended. v .kept obey ended;
-      }
+  module _ (r : HalfReport) (told : a ≡ Over r) (new : HalfLists) (f : Finished (g .n) (r .word) (record { marks = mid .marks; forms = mid .forms; correction = old .correction }) new)
+      (wide : (i : ℕ) → getD (new .forms) i 0 < 2 ^ 64) where
+    abbrev e : End
+    e = decoded (halfIn (g .n) (ownRows g) (g .lost) (g .other) (g .others)) (g .budget) (g .limit)
+
+    ran : RowsObey (g .n) (ownRows g) (g .other) (g .others) → Ran (g .n) (ownRows g) mid r e
+    ran obey =
+        let o = v .over (sym (enough-is g (length work) old) ∙ enough-then r told) in
+        let same : o .0 ≡ r = cc in
+        subst (λ (x : HalfReport). Ran (g .n) (ownRows g) mid x e) same (o .2 obey)
+
+    past : Past (g .n) old new
+    past = past-stays (g .n) (record { marks = old .marks; forms = old .forms; work = work }) (old .correction) mid (r .word) new (v .stays) f
+
+    pub decodes-done : Decodes g work (mid .work) old new (Decoded r)
+    unfolding shown
+    decodes-done =
+        record {
+          lengths = record {
+            marks = f .marks .long ∙ v .stays .marks-long;
+            forms = f .forms .long ∙ v .stays .forms-long;
+            correction = f .correction .long;
+          };
+          past = past;
+          work-long = v .stays .work-long;
+          refused = λ i. never (enough-then r told) i;
+          answered = λ i j. let z : _≡_ {A = ℕ} 0 1 = cc in omega arith;
+          decoded = λ i obey. let w = ran obey in (ap Decoded (w .report), ended-shows (g .n) (ownRows g) mid (old .correction) new r e w f old past wide);
+          kept = λ i obey. ended-kept (g .n) (ownRows g) mid (old .correction) new r e (ran obey) f;
+        }

@@ -31,7 +31,7 @@ use Rattle.starting.specs.Starting.{openMark, fixedIn, Starts, Opens, Marks}
 use Rattle.starting.specs.Starting as starts
 use Rattle.starting.proofs.Marks.{listed-below, open-marks}
 use Rattle.turns.specs.declared.RunAnswer.{RunAnswer}
-use Rattle.turns.specs.declared.RunAnswer.the-variants.{Refused, Over}
+use Rattle.turns.specs.declared.RunAnswer.the-variants.{Over}
 use Rattle.turns.specs.Turns.{Working, Stays, isGuessed, runFrom}
 use Rattle.turns.specs.Runs.{endOf, restOf, Ran, Runs, GoesOn}
 use Rattle.turns.specs.Runs as runs
@@ -94,17 +94,17 @@ module _ (n : ℕ) (c : RowLists) (lost : List ℕ) (other others : ℕ) (fixed 
       of true false = refl
       of false f = refl
 
-  ran-from : (budget limit : ℕ) (new : Working) (a : RunAnswer) (r : HalfReport) → Runs n c budget limit l new a → runs.fitting n c l ≡ true → a ≡ Over r
+  ran-from : (budget limit : ℕ) (new : Working) (a : RunAnswer) (r : HalfReport) → Runs n c budget limit l new a → runs.enoughIn? n c l ≡ true → a ≡ Over r
       → GoodRows n c → Kept (isOpen (view n (l .marks))) c (l .work) → RowsOn (isOpen (view n (l .marks))) c (l .work)
       → Ran n c new r (endFrom (halfIn n c lost other others) fixed budget limit)
-  ran-from budget limit new a r v fits told good kept on =
-      let o = v .over fits in
+  ran-from budget limit new a r v enough told good kept on =
+      let o = v .over enough in
       let same : o .0 ≡ r = cc in
       subst (λ (x : HalfReport). Ran n c new x (endFrom (halfIn n c lost other others) fixed budget limit)) same
       (subst (Ran n c new (o .0)) (sym (end-is budget limit)) (o .2 (record { good = good; kept = kept; on = on; unguessed = none-guessed })))
 
 ----------------------------------------------------------------------
--- Sizes and lists that fit
+-- Sizes in range and lists long enough
 
 -- What the start and the turns of a half ask.
 abbrev Asked : ℕ → RowLists → List ℕ → ℕ → ℕ → Working → Type 0
@@ -112,18 +112,18 @@ Asked n c lost other others l =
     ((n ≤ 1024) × (c .count ≤ 512) × (others ≤ 512) × (c .first ≤ 512) × (other ≤ 512) × (10240 ≤ length (l .work)))
     × ((n ≤ length lost) × (c .first + c .count ≤ length (c .lit)) × (n ≤ length (l .marks)) × (4 * n ≤ length (l .forms)))
 
--- Sizes and lists that fit the decode fit its start.
-start-fits : (n lost lit first count other others work marks : ℕ) → n ≤ 1024 → count ≤ 512 → others ≤ 512 → first ≤ 512 → other ≤ 512 → 10240 ≤ work → n ≤ lost → first + count ≤ lit
-    → n ≤ marks → starts.fits? n lost lit first count other others work marks ≡ true
-unfolding starts.fits?
-start-fits n lost lit first count other others work marks a b d e f g h i j =
+-- Sizes and lists that are enough for the decode are for its start.
+start-enough : (n lost lit first count other others work marks : ℕ) → n ≤ 1024 → count ≤ 512 → others ≤ 512 → first ≤ 512 → other ≤ 512 → 10240 ≤ work → n ≤ lost → first + count ≤ lit
+    → n ≤ marks → starts.enough? n lost lit first count other others work marks ≡ true
+unfolding starts.enough?
+start-enough n lost lit first count other others work marks a b d e f g h i j =
     rw (le-leb n 1024 a, le-leb count 512 b, le-leb others 512 d, le-leb first 512 e, le-leb other 512 f, le-leb 10240 work g, le-leb n lost h, le-leb (first + count) lit i, le-leb n marks j)
 
 -- And its turns.
-turns-fit : (n lit first count work marks forms : ℕ) → n ≤ 1024 → count ≤ 512 → first ≤ 512 → 10240 ≤ work → first + count ≤ lit
-    → n ≤ marks → 4 * n ≤ forms → runs.fits? n lit first count work marks forms ≡ true
-unfolding runs.fits?
-turns-fit n lit first count work marks forms a b d f g h i =
+turns-enough : (n lit first count work marks forms : ℕ) → n ≤ 1024 → count ≤ 512 → first ≤ 512 → 10240 ≤ work → first + count ≤ lit
+    → n ≤ marks → 4 * n ≤ forms → runs.enough? n lit first count work marks forms ≡ true
+unfolding runs.enough?
+turns-enough n lit first count work marks forms a b d f g h i =
     and-in (and-in (and-in (and-in (and-in (and-in (le-leb _ _ a) (le-leb _ _ b)) (le-leb _ _ d)) (le-leb _ _ f)) (le-leb _ _ g)) (le-leb _ _ h)) (le-leb _ _ i)
 
 -- A start writes marks and work list, and no form.
@@ -132,19 +132,16 @@ start-stays : (n : ℕ) (l : Working) (work′ marks′ : List ℕ) → length w
 start-stays n l work′ marks′ work-long marks-long rest =
     record { marks-long = marks-long; forms-long = refl; work-long = work-long; marks-rest = rest; forms-rest = λ i h. refl }
 
-pub not-refused : {C : Type 0} (a : RunAnswer) (r : HalfReport) → a ≡ Over r → a ≡ Refused → C
-not-refused a r i j = let z : _≡_ {A = ℕ} 0 1 = cc in absurd (omega arith)
-
--- Sizes and lists that fit the decode fit the search.
-search-fits : (n lost other others work marks : ℕ) → n ≤ 1024 → others ≤ 512 → other ≤ 512 → 10240 ≤ work → n ≤ lost → n ≤ marks → starts.searchable? n lost other others work marks ≡ true
+-- Sizes and lists that are enough for the decode are for the search.
+search-enough : (n lost other others work marks : ℕ) → n ≤ 1024 → others ≤ 512 → other ≤ 512 → 10240 ≤ work → n ≤ lost → n ≤ marks → starts.searchable? n lost other others work marks ≡ true
 unfolding starts.searchable?
-search-fits n lost other others work marks a b d e f g =
+search-enough n lost other others work marks a b d e f g =
     rw (le-leb n 1024 a, le-leb others 512 b, le-leb other 512 d, le-leb 10240 work e, le-leb n lost f, le-leb n marks g)
 
 -- And what is kept of the rows.
-fill-fits : (n : ℕ) (c : RowLists) (work : ℕ) → n ≤ 1024 → c .count ≤ 512 → c .first ≤ 512 → 10240 ≤ work → c .first + c .count ≤ length (c .lit) → fills.fits? n c work ≡ true
-unfolding fills.fits?
-fill-fits n c work a b d e f =
+fill-enough : (n : ℕ) (c : RowLists) (work : ℕ) → n ≤ 1024 → c .count ≤ 512 → c .first ≤ 512 → 10240 ≤ work → c .first + c .count ≤ length (c .lit) → fills.enough? n c work ≡ true
+unfolding fills.enough?
+fill-enough n c work a b d e f =
     rw (le-leb n 1024 a, le-leb (c .count) 512 b, le-leb (c .first + c .count) 1024 (omega arith), le-leb 9216 work (omega arith), le-leb (c .first + c .count) (length (c .lit)) f)
 
 ----------------------------------------------------------------------
@@ -160,18 +157,18 @@ obeys n c lost other others obey =
     }
 
 module _ (n : ℕ) (c : RowLists) (lost : List ℕ) (other others : ℕ) (old : Working) (asked : Asked n c lost other others old) where
-  -- Lists that keep their lengths still fit.
-  can-turn : (l : Working) → Stays n old l → runs.fitting n c l ≡ true
-  can-turn l k = turns-fit _ _ _ _ _ _ _ (omega arith) (omega arith) (omega arith) (omega arith) (omega arith) (omega arith) (omega arith)
+  -- Lists that keep their lengths are still enough.
+  can-turn : (l : Working) → Stays n old l → runs.enoughIn? n c l ≡ true
+  can-turn l k = turns-enough _ _ _ _ _ _ _ (omega arith) (omega arith) (omega arith) (omega arith) (omega arith) (omega arith) (omega arith)
 
-  can-start : (l : Working) → Stays n old l → starts.fitting n c lost other others (l .work) (l .marks) ≡ true
-  can-start l k = start-fits _ _ _ _ _ _ _ _ _ (omega arith) (omega arith) (omega arith) (omega arith) (omega arith) (omega arith) (omega arith) (omega arith) (omega arith)
+  can-start : (l : Working) → Stays n old l → starts.enoughIn? n c lost other others (l .work) (l .marks) ≡ true
+  can-start l k = start-enough _ _ _ _ _ _ _ _ _ (omega arith) (omega arith) (omega arith) (omega arith) (omega arith) (omega arith) (omega arith) (omega arith) (omega arith)
 
   can-search : (l : Working) → Stays n old l → starts.searchable? n (length lost) other others (length (l .work)) (length (l .marks)) ≡ true
-  can-search l k = search-fits _ _ _ _ _ _ (omega arith) (omega arith) (omega arith) (omega arith) (omega arith) (omega arith)
+  can-search l k = search-enough _ _ _ _ _ _ (omega arith) (omega arith) (omega arith) (omega arith) (omega arith) (omega arith)
 
-  can-fill : (l : Working) → Stays n old l → fills.fits? n c (length (l .work)) ≡ true
-  can-fill l k = fill-fits n c _ (omega arith) (omega arith) (omega arith) (omega arith) (omega arith)
+  can-fill : (l : Working) → Stays n old l → fills.enough? n c (length (l .work)) ≡ true
+  can-fill l k = fill-enough n c _ (omega arith) (omega arith) (omega arith) (omega arith) (omega arith)
 
 ----------------------------------------------------------------------
 -- The search, and the turns after it
@@ -235,17 +232,17 @@ module _ (n : ℕ) (c : RowLists) (lost : List ℕ) (other others budget limit :
         record {
           stays = stays-on n old ready new ready-stays (v .stays);
           over = (
-            v .over fits .0,
-            v .over fits .1,
+            v .over enough .0,
+            v .over enough .1,
             λ obey.
                 let s = reaches obey .left made told in
-                subst (Ran n c new (v .over fits .0)) (rest obey s ∙ ends obey)
-                (v .over fits .2 (record { begins = record { good = obey .own; kept = kept obey; on = on obey; unguessed = s .ready .unguessed }; topped = s .ready .topped })),
+                subst (Ran n c new (v .over enough .0)) (rest obey s ∙ ends obey)
+                (v .over enough .2 (record { begins = record { good = obey .own; kept = kept obey; on = on obey; unguessed = s .ready .unguessed }; topped = s .ready .topped })),
           );
         }
       where
-        fits : (runs.fitting n c ready && leb made limit) ≡ true
-        fits = and-in (can-turn n c lost other others old asked ready ready-stays) (le-leb made limit (try .within made told))
+        enough : (runs.enoughIn? n c ready && leb made limit) ≡ true
+        enough = and-in (can-turn n c lost other others old asked ready ready-stays) (le-leb made limit (try .within made told))
 
         rest : RowsObey n c other others → Stuck n c limit made mid (λ budget. endOf n c budget limit begun) → restOf n c budget limit made ready ≡ endOf n c budget limit begun
         rest obey s = s .rest budget
@@ -257,15 +254,15 @@ module _ (n : ℕ) (c : RowLists) (lost : List ℕ) (other others budget limit :
         record {
           stays = stays-on n old ready new ready-stays (v .stays);
           over = (
-            v .over fits .0,
-            v .over fits .1,
+            v .over enough .0,
+            v .over enough .1,
             λ obey.
-                ran-from n c lost other others (fixedIn n c lost other others) ready (as-begun obey) budget limit new b _ v fits (v .over fits .1) (obey .own) (kept obey) (on obey),
+                ran-from n c lost other others (fixedIn n c lost other others) ready (as-begun obey) budget limit new b _ v enough (v .over enough .1) (obey .own) (kept obey) (on obey),
           );
         }
       where
-        fits : runs.fitting n c ready ≡ true
-        fits = can-turn n c lost other others old asked ready ready-stays
+        enough : runs.enoughIn? n c ready ≡ true
+        enough = can-turn n c lost other others old asked ready ready-stays
 
         as-begun : RowsObey n c other others → view n (mid .marks) ≡ startMark (listed n lost) (fixedIn n c lost other others)
         as-begun obey =
@@ -331,11 +328,11 @@ module _ (n : ℕ) (c : RowLists) (lost : List ℕ) (other others limit : ℕ) (
       record {
         stays = stays-on n old anew new anew-stays (v .stays);
         over = (
-          v .over fits .0,
-          v .over fits .1,
+          v .over enough .0,
+          v .over enough .1,
           λ obey.
               let s = starts .begun (can-start n c lost other others old asked mid tried-stays) (obey .own) (obey .other-kind) (obey .commute) in
-              ran-from n c lost other others (fixedIn n c lost other others) anew (s .marked) budget limit new b _ v fits (v .over fits .1) (obey .own) (s .keeps .kept) (s .keeps .on),
+              ran-from n c lost other others (fixedIn n c lost other others) anew (s .marked) budget limit new b _ v enough (v .over enough .1) (obey .own) (s .keeps .kept) (s .keeps .on),
         );
       }
     where
@@ -345,5 +342,5 @@ module _ (n : ℕ) (c : RowLists) (lost : List ℕ) (other others limit : ℕ) (
       anew-stays : Stays n old anew
       anew-stays = stays-on n old mid anew tried-stays (start-stays n mid work₂ marks₂ (starts .work-long) (starts .marks-long) (starts .rest))
 
-      fits : runs.fitting n c anew ≡ true
-      fits = can-turn n c lost other others old asked anew anew-stays
+      enough : runs.enoughIn? n c anew ≡ true
+      enough = can-turn n c lost other others old asked anew anew-stays

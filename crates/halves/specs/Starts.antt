@@ -2,11 +2,11 @@
 --   halfIn      the half whose rows and readings, lost qubits and other kind's rows the lists hold
 --   RowsObey    the rows obey document 01
 --   HalfRan     the start and the turns of a half
+--   enough?     whether sizes are in range and lists long enough for the decode
+--   HalfRuns    its start and its turns, where they are; otherwise nothing is written
 --   Finished    what the half leaves in its lists, by its word
---   fits?       whether sizes and lengths are such that the half is decoded
---   HalfDone    the whole decode of a half
 use mathlib.Core.Path.{_≡_}
-use mathlib.Core.Bool.{Bool, false, _&&_, cond}
+use mathlib.Core.Bool.{Bool, _&&_, cond}
 use mathlib.Core.List.{List}
 use Prim.Native.Nat.{ℕ, _+_, _*_, _%_}
 use lib.Dec.{leb}
@@ -17,14 +17,14 @@ use Rattle.code.specs.Tests.{Ascending}
 use Rattle.scans.specs.Rows.{RowLists, GoodRows}
 use Rattle.turns.specs.declared.RunAnswer.{RunAnswer}
 use Rattle.turns.specs.declared.RunAnswer.the-variants.{Over}
-use Rattle.turns.specs.Turns.{Working, Stays, KeptOver}
-use Rattle.turns.specs.Runs.{Ran}
+use Rattle.turns.specs.Turns.{Working, Stays}
+use Rattle.turns.specs.Runs.{Ran, Answers}
 use Rattle.machine.specs.declared.Word.{Word}
 use Rattle.machine.specs.declared.HalfReport.{HalfReport}
 use Rattle.machine.specs.Machine.{Half, decoded}
 use Rattle.machine.specs.Words.{finished?}
-use Rattle.machine.specs.Report.{none?, outcome}
-use Rattle.machine.specs.Lists.{HalfLists, SameLengths, Past, Shows}
+use Rattle.machine.specs.Report.{none?}
+use Rattle.machine.specs.Lists.{HalfLists}
 use Rattle.halves.specs.Lists.{halfOf}
 use Rattle.lists.specs.Filled.{Filled}
 
@@ -46,6 +46,15 @@ pub record HalfRan (n : ℕ) (c : RowLists) (lost : List ℕ) (other others budg
   pub stays : Stays n old new
   pub over : (r : HalfReport) × (a ≡ Over r) × (RowsObey n c other others → Ran n c new r (decoded (halfIn n c lost other others) budget limit))
 
+-- Sizes, and the lengths of the lists.
+unfoldable pub enough? : ℕ → ℕ → ℕ → ℕ → ℕ → ℕ → ℕ → ℕ → ℕ → ℕ → ℕ → Bool
+enough? n lost lit first count other others work marks forms correction =
+    leb n 1024 && leb count 512 && leb others 512 && leb first 512 && leb other 512
+    && leb 10240 work && leb n lost && leb (first + count) lit && leb n marks && leb (4 * n) forms && leb n correction
+
+abbrev pub HalfRuns : ℕ → RowLists → List ℕ → ℕ → ℕ → ℕ → ℕ → Bool → Working → Working → RunAnswer → Type 0
+HalfRuns n c lost other others budget limit enough = Answers n c enough (RowsObey n c other others) (decoded (halfIn n c lost other others) budget limit)
+
 ----------------------------------------------------------------------
 -- What a half leaves
 
@@ -54,19 +63,3 @@ pub record Finished (n : ℕ) (word : Word) (old new : HalfLists) : Type 0 where
   pub marks : Filled (λ q. cond (none? word) 0 (getD (old .marks) q 0)) n (old .marks) (new .marks)
   pub forms : Filled (λ i. cond (none? word) 0 (getD (old .forms) i 0)) (4 * n) (old .forms) (new .forms)
   pub correction : Filled (λ q. cond (finished? word) (getD (old .forms) (4 * q) 0 % 2) 0) n (old .correction) (new .correction)
-
-----------------------------------------------------------------------
--- The whole
-
--- Sizes, and the lengths of the lists.
-unfoldable pub fits? : ℕ → ℕ → ℕ → ℕ → ℕ → ℕ → ℕ → ℕ → ℕ → ℕ → ℕ → Bool
-fits? n lost lit first count other others work marks forms correction =
-    leb n 1024 && leb count 512 && leb others 512 && leb first 512 && leb other 512
-    && leb 10240 work && leb n lost && leb (first + count) lit && leb n marks && leb (4 * n) forms && leb n correction
-
--- With what the work list holds in the end.
-pub record HalfDone (n : ℕ) (c : RowLists) (lost : List ℕ) (other others budget limit : ℕ) (work : List ℕ) (old new : HalfLists) (r : HalfReport) : Type 0 where
-  pub lengths : SameLengths old new
-  pub past : Past n old new
-  pub shows : RowsObey n c other others → let s = outcome (halfIn n c lost other others) budget limit in (r ≡ s .report) × Shows n s old new
-  pub kept : RowsObey n c other others → none? (outcome (halfIn n c lost other others) budget limit .report .word) ≡ false → KeptOver n c (new .marks) work

@@ -3,10 +3,9 @@ ghost use mathlib.Core.Path.{_≡_};
 ghost use Prim.Native.Nat.{_+_, _*_, _≤_};
 ghost use lib.ListN.{length};
 ghost use Rattle.machine.specs.Report.{none?};
-ghost use Rattle.halves.specs.Starts.{Finished, HalfRan, fits?, HalfDone};
+ghost use Rattle.halves.specs.Starts.{HalfRan, enough?, HalfRuns, Finished};
 use crate::fills;
 use code::Rows;
-use machine::HalfReport;
 use machine::Word;
 use trying::TryAnswer;
 use turns::RunAnswer;
@@ -25,7 +24,7 @@ fn is_none(word: Word) -> bool
 }
 
 // What a half leaves in its lists by its word: the correction of a finished one, none of another; after none, nothing at all.
-fn finish(n: usize, word: Word, marks: &mut [u8], forms: &mut [u64], correction: &mut [u8])
+pub fn finish(n: usize, word: Word, marks: &mut [u8], forms: &mut [u64], correction: &mut [u8])
     requires { ⌜ (n ≤ length (now marks)) × (4 * n ≤ length (now forms)) × (n ≤ length (now correction)) ⌝ }
     ensures { λ _. ⌜ Finished n word (record { marks = now (marks .entry); forms = now (forms .entry); correction = now (correction .entry) }) (record { marks = now (marks .exit); forms = now (forms .exit); correction = now (correction .exit) }) ⌝ }
 {
@@ -41,7 +40,7 @@ fn finish(n: usize, word: Word, marks: &mut [u8], forms: &mut [u64], correction:
 }
 
 // Whether the sizes are document 01's and the lists long enough.
-pub fn fits(
+fn is_enough(
     n: u16,
     lost: &[u8],
     lit: &[u8],
@@ -52,7 +51,7 @@ pub fn fits(
     forms: &[u64],
     correction: &[u8],
 ) -> bool
-    ensures { λ r. ⌜ r ≡ fits? n (length (now (lost .entry))) (length (now (lit .entry))) (own .first .0) (own .count) (others .first .0) (others .count) (length (now (work .entry))) (length (now (marks .entry))) (length (now (forms .entry))) (length (now (correction .entry))) ⌝ }
+    ensures { λ r. ⌜ r ≡ enough? n (length (now (lost .entry))) (length (now (lit .entry))) (own .first .0) (own .count) (others .first .0) (others .count) (length (now (work .entry))) (length (now (marks .entry))) (length (now (forms .entry))) (length (now (correction .entry))) ⌝ }
 {
     let size = n as usize;
     let first = own.first;
@@ -65,17 +64,6 @@ pub fn fits(
         & (other.0 <= 512);
     let shot = small & (10240 <= work.len()) & (size <= lost.len()) & (last <= lit.len());
     shot & (size <= marks.len()) & (4 * size <= forms.len()) & (size <= correction.len())
-}
-
-// For turns that are not made, of which there are none here.
-fn nothing() -> HalfReport {
-    HalfReport {
-        word: Word::None,
-        fixed: 0,
-        turns: 0,
-        guesses: 0,
-        live: 0,
-    }
 }
 
 // A half of which peeling leaves a qubit: its start by the search, and its turns, those up to the first guess by the numbers of the rows.
@@ -128,7 +116,7 @@ fn search_and_turn(
 
 // The start and the turns of a half. First a try, as if no qubit were fixed: where it is over, peeling left nothing, no qubit is fixed and none is guessed, and the
 // half ends so. Where a qubit is left, the search is made.
-fn run_half(
+fn start_and_turn(
     n: u16,
     flat: &[u16],
     ends: &[u16],
@@ -171,8 +159,8 @@ fn run_half(
     turns::run_turns(n, flat, ends, lit, own, budget, limit, work, marks, forms)
 }
 
-// The decode of a half whose sizes and lists fit.
-pub fn decode(
+// The same where sizes are in range and lists long enough; otherwise nothing is written.
+pub fn run_half(
     n: u16,
     flat: &[u16],
     ends: &[u16],
@@ -185,13 +173,14 @@ pub fn decode(
     work: &mut [u64],
     marks: &mut [u8],
     forms: &mut [u64],
-    correction: &mut [u8],
-) -> HalfReport
-    requires { ⌜ (n ≤ 1024) × (own .count ≤ 512) × (others .count ≤ 512) × (own .first .0 ≤ 512) × (others .first .0 ≤ 512) × (10240 ≤ length (now work)) ⌝ }
-    requires { ⌜ (n ≤ length (now lost)) × (own .first .0 + own .count ≤ length (now lit)) × (n ≤ length (now marks)) × (4 * n ≤ length (now forms)) × (n ≤ length (now correction)) ⌝ }
-    ensures { λ r. ⌜ (length (now (work .exit)) ≡ length (now (work .entry))) × HalfDone n (record { flat = now (flat .entry); ends = now (ends .entry); lit = now (lit .entry); first = own .first .0; count = own .count }) (now (lost .entry)) (others .first .0) (others .count) budget limit (now (work .exit)) (record { marks = now (marks .entry); forms = now (forms .entry); correction = now (correction .entry) }) (record { marks = now (marks .exit); forms = now (forms .exit); correction = now (correction .exit) }) r ⌝ }
+    correction: &[u8],
+) -> RunAnswer
+    ensures { λ r. ⌜ HalfRuns n (record { flat = now (flat .entry); ends = now (ends .entry); lit = now (lit .entry); first = own .first .0; count = own .count }) (now (lost .entry)) (others .first .0) (others .count) budget limit (enough? n (length (now (lost .entry))) (length (now (lit .entry))) (own .first .0) (own .count) (others .first .0) (others .count) (length (now (work .entry))) (length (now (marks .entry))) (length (now (forms .entry))) (length (now (correction .entry)))) (record { marks = now (marks .entry); forms = now (forms .entry); work = now (work .entry) }) (record { marks = now (marks .exit); forms = now (forms .exit); work = now (work .exit) }) r ⌝ }
 {
-    let ran = run_half(
+    if !is_enough(n, lost, lit, own, others, work, marks, forms, correction) {
+        return RunAnswer::Refused;
+    }
+    start_and_turn(
         n,
         flat,
         ends,
@@ -204,11 +193,5 @@ pub fn decode(
         work,
         marks,
         forms,
-    );
-    let RunAnswer::Over(told) = ran else {
-        return nothing();
-    };
-    let word = told.word;
-    finish(n as usize, word, marks, forms, correction);
-    told
+    )
 }

@@ -6,6 +6,7 @@ mod fills;
 
 use code::Rows;
 use machine::HalfReport;
+use turns::RunAnswer;
 
 // The answer to the decode of a half.
 pub enum HalfAnswer {
@@ -31,10 +32,7 @@ pub fn decode_half(
 ) -> HalfAnswer
     ensures { λ r. ⌜ Decodes (record { n = n; flat = now (flat .entry); ends = now (ends .entry); lost = now (lost .entry); lit = now (lit .entry); first = own .first .0; count = own .count; other = others .first .0; others = others .count; budget = budget; limit = limit }) (now (work .entry)) (now (work .exit)) (record { marks = now (marks .entry); forms = now (forms .entry); correction = now (correction .entry) }) (record { marks = now (marks .exit); forms = now (forms .exit); correction = now (correction .exit) }) r ⌝ }
 {
-    if !decode::fits(n, lost, lit, own, others, work, marks, forms, correction) {
-        return HalfAnswer::Refused;
-    }
-    HalfAnswer::Decoded(decode::decode(
+    let ran = decode::run_half(
         n,
         flat,
         ends,
@@ -48,5 +46,11 @@ pub fn decode_half(
         marks,
         forms,
         correction,
-    ))
+    );
+    let RunAnswer::Over(told) = ran else {
+        return HalfAnswer::Refused;
+    };
+    let word = told.word;
+    decode::finish(n as usize, word, marks, forms, correction);
+    HalfAnswer::Decoded(told)
 }

@@ -17,8 +17,8 @@ use lib.Seq.{getD-set-same, getD-set-other, getD-take, getD-drop, ext-getD, leng
 use Rattle.binary.specs.Meaning.{Row, has}
 use Rattle.binary.proofs.Bits.{bit, never, or-false, or-right}
 use Rattle.binary.proofs.WordBits.{order}
-use Rattle.code.specs.Tests.{Ascending}
-use Rattle.code.proofs.Order.{Distinct, ascending-distinct}
+use Rattle.code.specs.Tests.{Ascending, Distinct}
+use Rattle.code.proofs.Order.{ascending-distinct}
 use Rattle.incidence.specs.Incidence.{slot, numberOn, rowsOn, noteOn, noteAll, emptied, noted, ListedOn, Listed}
 use Rattle.incidence.proofs.Noting.{note-long, all-long, emptied-long, note-place, note-full}
 

@@ -13,7 +13,7 @@ use Prim.Native.Nat.{ℕ, zero, suc, _+_, _*_, _≤_, _<_}
 use lib.Dec.{eqb, ltb, leb}
 use lib.ListN.{length, getD, set, take, drop}
 use Rattle.binary.specs.Meaning.{Row, has}
-use Rattle.code.proofs.Order.{Distinct}
+use Rattle.code.specs.Tests.{Distinct}
 
 abbrev pub slot : ℕ → ℕ
 slot q = 1024 + 15 * q

@@ -11,10 +11,10 @@ use borrow.Author.Tests.{eqb-true}
 use Rattle.binary.specs.Meaning.{Qubits, Check}
 use Rattle.binary.proofs.Bits.{never}
 use Rattle.machine.specs.Machine.{keepIf, part, only, orElse, dangling}
-use Rattle.scans.specs.Rows.{RowLists, checksFrom, rowChecks}
+use Rattle.scans.specs.Rows.{RowLists, checkIn, readIn?, checksFrom, rowChecks}
 use Rattle.scans.specs.Scans.{OpenFrom}
 use Rattle.scans.proofs.Scanning.{one-inside, one-open}
-use Rattle.scans.proofs.Checks.{from, here, was-read, from-all, from-none}
+use Rattle.scans.proofs.Checks.{from, from-all, from-none}
 use Rattle.kept.specs.Kept.{rowIn, dangles?}
 
 only-not : (l : List ℕ) → eqb (length l) 1 ≡ false → only l ≡ none
@@ -27,11 +27,11 @@ dangling-kept o true c cs = refl
 dangling-kept o false c cs = refl
 
 module _ (o : Qubits) (c : RowLists) where
-  from-here : (i : ℕ) → i < c .count → dangling o (from c i) ≡ orElse (only (part o (rowIn c i))) (here c i) (dangling o (from c (i + 1)))
+  from-here : (i : ℕ) → i < c .count → dangling o (from c i) ≡ orElse (only (part o (rowIn c i))) (checkIn c i) (dangling o (from c (i + 1)))
   from-here i h =
       let e : c .count - i ≡ suc (c .count - (i + 1)) = omega arith in
       let d : suc (c .first + i) ≡ c .first + (i + 1) = omega arith in
-      rw (e, ← d) (dangling-kept o (was-read c i) (here c i) (checksFrom (c .flat) (c .ends) (c .lit) (suc (c .first + i)) (c .count - (i + 1))))
+      rw (e, ← d) (dangling-kept o (readIn? c i) (checkIn c i) (checksFrom (c .flat) (c .ends) (c .lit) (suc (c .first + i)) (c .count - (i + 1))))
 
   -- Rows that do not dangle are passed over.
   passed : (i d : ℕ) → i + d ≤ c .count → ((j : ℕ) → i ≤ j → j < i + d → dangles? o c j ≡ false) → dangling o (from c i) ≡ dangling o (from c (i + d))
@@ -55,19 +55,19 @@ module _ (o : Qubits) (c : RowLists) where
   one-read false row e = absurd (omega arith)
 
   module _ (r : ℕ) (h : r < c .count) (dangles : dangles? o c r ≡ true) (f : (j : ℕ) → j < r → dangles? o c j ≡ false) where
-    pub row-is : rowIn c r ≡ here c r .row
-    row-is = one-read (was-read c r) (here c r .row) (eqb-true _ 1 dangles)
+    pub row-is : rowIn c r ≡ checkIn c r .row
+    row-is = one-read (readIn? c r) (checkIn c r .row) (eqb-true _ 1 dangles)
 
     -- The row whose open qubit is p.
-    pub dangling-only : (p : ℕ) → part o (here c r .row) ≡ p ∷ [] → dangling o (rowChecks c) ≡ some (p, here c r)
+    pub dangling-only : (p : ℕ) → part o (checkIn c r .row) ≡ p ∷ [] → dangling o (rowChecks c) ≡ some (p, checkIn c r)
     dangling-only p e = to r (omega arith) f ∙ from-here r h ∙ rw (row-is, e)
 
-    module _ (i : ℕ) (first : OpenFrom o (here c r .row) 0 i) where
-      one : length (part o (here c r .row)) ≡ 1
+    module _ (i : ℕ) (first : OpenFrom o (checkIn c r .row) 0 i) where
+      one : length (part o (checkIn c r .row)) ≡ 1
       one = sym (ap (λ (x : List ℕ). length (part o x)) row-is) ∙ eqb-true _ 1 dangles
 
-      pub found-inside : i < length (here c r .row)
-      found-inside = one-inside o (here c r .row) i first one
+      pub found-inside : i < length (checkIn c r .row)
+      found-inside = one-inside o (checkIn c r .row) i first one
 
-      pub dangling-found : dangling o (rowChecks c) ≡ some (getD (here c r .row) i 0, here c r)
-      dangling-found = dangling-only (getD (here c r .row) i 0) (one-open o (here c r .row) i first one)
+      pub dangling-found : dangling o (rowChecks c) ≡ some (getD (checkIn c r .row) i 0, checkIn c r)
+      dangling-found = dangling-only (getD (checkIn c r .row) i 0) (one-open o (checkIn c r .row) i first one)

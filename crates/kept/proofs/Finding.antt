@@ -15,8 +15,9 @@ use lib.Seq.{getD-set-same, getD-set-other}
 use mir.Val.{boolByte}
 use Rattle.binary.specs.Bits.{count, tally}
 use Rattle.binary.specs.Words
+use Rattle.binary.specs.Words.{numberOf}
 use Rattle.binary.proofs.Bits.{bit, tally-same, tally-first, tally-few}
-use Rattle.binary.proofs.NumberBits.{numberOf, number-few, number-bit}
+use Rattle.binary.proofs.NumberBits.{number-few, number-bit}
 use Rattle.binary.proofs.WordBits.{order}
 use Rattle.bitsets.specs.Bitsets.{inSet}
 use Rattle.kept.specs.Kept.{single?, danglingWord, Finds}

@@ -7,16 +7,16 @@ use native.Mathlib.Omega.{arith}
 use lib.Dec.{eqb}
 use lib.ListN.{length, getD}
 use borrow.Author.Tests.{eq-eqb, ne-eqb, eqb-true, eqb-false}
+use Rattle.binary.specs.Bits.{summed}
 use Rattle.binary.specs.Meaning.{Qubits, Row, has}
 use Rattle.binary.proofs.Bits.{bit, never, or-out}
 use Rattle.binary.proofs.UpTo.{upTo, up-below, up-from, up-pass, up-on}
 use Rattle.bitsets.specs.Bitsets.{inSet, NextIn}
 use Rattle.code.specs.Lists.{rowAt}
-use Rattle.code.specs.Tests.{Ascending}
-use Rattle.code.proofs.Order.{Distinct, ascending-distinct}
+use Rattle.code.specs.Tests.{Ascending, Distinct}
+use Rattle.code.proofs.Order.{ascending-distinct}
 use Rattle.machine.specs.Machine.{put, part, empty?}
-use Rattle.scans.specs.Rows.{RowLists, GoodRows}
-use Rattle.scans.proofs.Checks.{here, was-read}
+use Rattle.scans.specs.Rows.{RowLists, checkIn, readIn?, GoodRows}
 use Rattle.kept.specs.Kept.{rowIn, openIn, Kept, RowsOn, Tallied, Numbered, Retallied, Lowered, LoweredRows}
 use Rattle.kept.proofs.Same.{row-of, set-same, kept-by, tallied-by}
 
@@ -32,11 +32,7 @@ not-has o p (q ∷ r) e =
     let d : eqb p q ≡ false = ne-eqb p q (λ i. eqb-false q p a (sym i)) in
     rw (d, not-has o p r b)
 
--- The qubits of a list added up, each with a weight: with weight 1 they are counted.
-abbrev pub summed : (ℕ → ℕ) → List ℕ → ℕ
-summed w [] = 0
-summed w (q ∷ l) = w q + summed w l
-
+-- With weight 1 the qubits are counted.
 pub length-summed : (l : List ℕ) → length l ≡ summed (λ q. 1) l
 length-summed [] = refl
 length-summed (q ∷ l) = let rest = length-summed l in omega (arith, rest)
@@ -115,19 +111,19 @@ module _ (n : ℕ) (c : RowLists) (p : ℕ) (o : Qubits) (work₀ : List ℕ) (s
   -- Row i, which is on the qubit.
   module _ (i : ℕ) (work : List ℕ) (same : Rows work) (s : Lowering c p o i work) (h : i < c .count) (found : inSet work p i ≡ true) (long : 9216 ≤ length work)
       (work′ : List ℕ) (number : ℕ) (low : Lowered i work work′ number) where
-    pub on-it : (was-read c i ≡ true) × (has (here c i .row) p ≡ true)
-    on-it = has-none (was-read c i) (here c i .row) p (sym (on-row work same i h) ∙ found)
+    pub on-it : (readIn? c i ≡ true) × (has (checkIn c i .row) p ≡ true)
+    on-it = has-none (readIn? c i) (checkIn c i .row) p (sym (on-row work same i h) ∙ found)
 
-    row-is : rowIn c i ≡ here c i .row
+    row-is : rowIn c i ≡ checkIn c i .row
     row-is = rw (on-it .0)
 
-    was-open : getD work (8704 + i) 0 ≡ suc (length (part o′ (here c i .row)))
-    was-open = s .counts i h ∙ up-from (openIn o′ c) (openIn o c) i i (omega arith) ∙ rw row-is (one-less o p (here c i .row) (own i h) (g .open-p) (on-it .1))
+    was-open : getD work (8704 + i) 0 ≡ suc (length (part o′ (checkIn c i .row)))
+    was-open = s .counts i h ∙ up-from (openIn o′ c) (openIn o c) i i (omega arith) ∙ rw row-is (one-less o p (checkIn c i .row) (own i h) (g .open-p) (on-it .1))
 
     lowered : (number + 1 ≡ getD work (8704 + i) 0) × Numbered i number work work′ × Retallied i work work′
     lowered = low .lowered long (omega arith) (let z = was-open in omega arith)
 
-    pub number-is : number ≡ length (part o′ (here c i .row))
+    pub number-is : number ≡ length (part o′ (checkIn c i .row))
     number-is = let z = was-open in let y = lowered .0 in omega arith
 
     pub rows-on : Rows work′

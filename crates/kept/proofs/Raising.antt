@@ -7,19 +7,18 @@ use native.Mathlib.Omega.{arith}
 use lib.Dec.{eqb, ltb, leb}
 use lib.ListN.{length, getD}
 use borrow.Author.Tests.{eq-eqb, ne-eqb, eqb-true, eqb-false, ltb-true, leb-true}
-use Rattle.binary.specs.Bits.{_⊕_}
+use Rattle.binary.specs.Bits.{_⊕_, summed}
 use Rattle.binary.specs.Meaning.{Qubits, Row, All, has}
 use Rattle.binary.proofs.Bits.{bit, and-out, ⊕-false}
 use Rattle.bitsets.specs.Bitsets.{inSet, Flipped}
 use Rattle.code.specs.Lists.{rowAt, rowsFrom}
-use Rattle.code.specs.Tests.{ascendingFrom, ascending?, Ascending}
-use Rattle.code.proofs.Order.{Distinct, ascending-distinct}
+use Rattle.code.specs.Tests.{ascendingFrom, ascending?, Ascending, Distinct}
+use Rattle.code.proofs.Order.{ascending-distinct}
 use Rattle.machine.specs.Machine.{put, part}
-use Rattle.scans.specs.Rows.{RowLists}
-use Rattle.scans.proofs.Checks.{here, was-read}
+use Rattle.scans.specs.Rows.{RowLists, checkIn, readIn?}
 use Rattle.kept.specs.Kept.{rowIn, openIn, Counted, RowsOn, Numbered, Raised}
 use Rattle.kept.proofs.Same.{row-of, set-same}
-use Rattle.kept.proofs.Lowering.{not-has, summed, length-summed, summed-less}
+use Rattle.kept.proofs.Lowering.{not-has, length-summed, summed-less}
 
 ----------------------------------------------------------------------
 -- Open qubits of a row, before and after one becomes open
@@ -77,7 +76,7 @@ module _ (n : ℕ) (c : RowLists) (q : ℕ) (o : Qubits) (size : n ≤ 1024) (fe
 
   -- No row is raised yet, and none is on the qubit.
   pub raising-start : (later : ℕ → Bool) (work : List ℕ) → Counted o c work → RowsOn o c work → ((j : ℕ) → j < c .count → inSet work q j ≡ false)
-      → ((j : ℕ) → j < c .count → later j ≡ has (here c j .row) q) → Raising c q o later work
+      → ((j : ℕ) → j < c .count → later j ≡ has (checkIn c j .row) q) → Raising c q o later work
   raising-start later work k r none-on are =
       record {
         counts = λ j h. k j h ∙ bit (later j) (λ e. rw e) (λ e. rw e (sym (ap length (same-open o q (rowIn c j) shut (off j h e)))));
@@ -85,7 +84,7 @@ module _ (n : ℕ) (c : RowLists) (q : ℕ) (o : Qubits) (size : n ≤ 1024) (fe
       }
     where
       off : (j : ℕ) → j < c .count → later j ≡ false → has (rowIn c j) q ≡ false
-      off j h e = not-on (was-read c j) (here c j .row) (sym (are j h) ∙ e)
+      off j h e = not-on (readIn? c j) (checkIn c j .row) (sym (are j h) ∙ e)
 
       own-set : (p j : ℕ) → j < c .count → q ≡ p → inSet work p j ≡ cond (later j) false (has (rowIn c j) p)
       own-set p j h e =
@@ -94,12 +93,12 @@ module _ (n : ℕ) (c : RowLists) (q : ℕ) (o : Qubits) (size : n ≤ 1024) (fe
 
   module _ (later : ℕ → Bool) (work : List ℕ) (s : Raising c q o later work) where
     -- Rows that were not read have no open qubit, before and after.
-    pub raising-pass : (later′ : ℕ → Bool) → ((j : ℕ) → j < c .count → was-read c j ≡ true → later′ j ≡ later j) → Raising c q o later′ work
+    pub raising-pass : (later′ : ℕ → Bool) → ((j : ℕ) → j < c .count → readIn? c j ≡ true → later′ j ≡ later j) → Raising c q o later′ work
     raising-pass later′ same =
         record {
-          counts = λ j h. s .counts j h ∙ bit (was-read c j) (λ e. rw (same j h e)) (λ e. rw e (either (later j) 0 ∙ sym (either (later′ j) 0)));
+          counts = λ j h. s .counts j h ∙ bit (readIn? c j) (λ e. rw (same j h e)) (λ e. rw e (either (later j) 0 ∙ sym (either (later′ j) 0)));
           on = λ p j t h. s .on p j t h
-              ∙ bit (was-read c j) (λ e. rw (same j h e)) (λ e. rw e (either (eqb q p && later j) false ∙ sym (either (eqb q p && later′ j) false)));
+              ∙ bit (readIn? c j) (λ e. rw (same j h e)) (λ e. rw e (either (eqb q p && later j) false ∙ sym (either (eqb q p && later′ j) false)));
         }
       where
         either : {A : Type 0} (b : Bool) (x : A) → cond b x x ≡ x
@@ -117,19 +116,19 @@ module _ (n : ℕ) (c : RowLists) (q : ℕ) (o : Qubits) (size : n ≤ 1024) (fe
         no-more false = refl
 
     -- Row i, which is on the qubit, was read and was not raised yet.
-    module _ (i : ℕ) (h : i < c .count) (read : was-read c i ≡ true) (on-it : has (here c i .row) q ≡ true) (now : later i ≡ true) (long : 9216 ≤ length work)
+    module _ (i : ℕ) (h : i < c .count) (read : readIn? c i ≡ true) (on-it : has (checkIn c i .row) q ≡ true) (now : later i ≡ true) (long : 9216 ≤ length work)
         (mid : List ℕ) (flip : Flipped q i work mid) (work′ : List ℕ) (raise : Raised i mid work′) where
       q-below : q < n
       q-below = inside q (rw (eq-eqb q q refl))
 
-      row-is : rowIn c i ≡ here c i .row
+      row-is : rowIn c i ≡ checkIn c i .row
       row-is = rw read
 
-      was-open : getD mid (8704 + i) 0 ≡ length (part o (here c i .row))
+      was-open : getD mid (8704 + i) 0 ≡ length (part o (checkIn c i .row))
       was-open = flip .beyond (8704 + i) (let b = q-below in omega arith) ∙ s .counts i h ∙ rw (now, row-is)
 
-      more-open : length (part o′ (here c i .row)) ≡ suc (length (part o (here c i .row)))
-      more-open = one-more o q (here c i .row) (ascending-distinct n (here c i .row) (own i h)) shut on-it
+      more-open : length (part o′ (checkIn c i .row)) ≡ suc (length (part o (checkIn c i .row)))
+      more-open = one-more o q (checkIn c i .row) (ascending-distinct n (checkIn c i .row) (own i h)) shut on-it
 
       raised : Numbered i (getD mid (8704 + i) 0 % 1024 + 1) mid work′
       raised = raise .raised (omega (arith, flip .long)) (omega arith)
@@ -144,7 +143,7 @@ module _ (n : ℕ) (c : RowLists) (q : ℕ) (o : Qubits) (size : n ≤ 1024) (fe
       raising-row later′ gone same =
           record {
             counts = λ j l. raised j (omega arith) ∙ bit (eqb i j)
-                (λ e. let d = eqb-true i j e in rw (e, ← d, gone, row-is) (omega (arith, was-open, more-open, open-few n o′ (here c i .row) (own i h))))
+                (λ e. let d = eqb-true i j e in rw (e, ← d, gone, row-is) (omega (arith, was-open, more-open, open-few n o′ (checkIn c i .row) (own i h))))
                 (λ e. rw (e, same j e) (flip .beyond (8704 + j) (let b = q-below in omega arith) ∙ s .counts j l));
             on = λ p j t l. sets-raised p j (let b = inside p t in omega arith) (omega arith) ∙ sets-mid p j (omega arith) ∙ ap (λ (x : Bool). x ⊕ (eqb p q && eqb j i)) (s .on p j t l) ∙ turned p j;
           }

@@ -163,12 +163,13 @@ module _ (i number : ℕ) (old : List ℕ) (few : i < 512) (long : 9216 ≤ leng
       c .total ∙ rw (told, lt-ltb (tally n (single? old)) 512 (omega arith)) (omega arith))
 
 module _ (i : ℕ) (old : List ℕ) where
-  pub lowered : (left : ℕ) → left + 1 ≡ getD old (8704 + i) 0 → (new : List ℕ) → Renumbered i left old new → Lowered i old new left
-  lowered left is new r = record { long = r .long; below = r .below; past = r .past; lowered = λ a b d. (is, r .numbered, r .tallied) }
+  pub lowered : 9216 ≤ length old → i < 512 → (left : ℕ) → left + 1 ≡ getD old (8704 + i) 0 → (new : List ℕ) → Renumbered i left old new → Lowered i old new left
+  lowered long few left is new r =
+      record { long = r .long; below = r .below; past = r .past; lowered = λ a b d. (is, r .numbered, r .tallied); refused = λ f. absurd (f long few (omega arith)) }
 
   -- Where the list is short, there is no such row, or its number is 0.
   pub lowered-not : (9216 ≤ length old → i < 512 → 1 ≤ getD old (8704 + i) 0 → ⊥) → Lowered i old old 0
-  lowered-not f = record { long = refl; below = λ k h. refl; past = λ k h. refl; lowered = λ a b d. absurd (f a b d) }
+  lowered-not f = record { long = refl; below = λ k h. refl; past = λ k h. refl; lowered = λ a b d. absurd (f a b d); refused = λ g. (refl, refl) }
 
 module _ (i : ℕ) (old : List ℕ) where
   pub raised : (few : i < 512) (long : 9216 ≤ length old) → Raised i old (mid i (getD old (8704 + i) 0 % 1024 + 1) old few long)
@@ -190,23 +191,29 @@ none-tallied n f e j h = not-out (f j) (below-out n _ (none-counted n f e) j h)
 
 module _ (count : ℕ) (work : List ℕ) where
   pub lowest-short : length work < 9216 → Lowest count work count
-  lowest-short h = record { within = omega arith; lowest = λ l. absurd (omega arith) }
+  lowest-short h = record { within = omega arith; by-total = λ z. refl; short = λ s. refl; by-set = λ l. absurd (omega arith); lowest = λ l. absurd (omega arith) }
 
   pub lowest-none : getD work 8200 0 ≡ 0 → Lowest count work count
   lowest-none z =
       record {
         within = omega arith;
+        by-total = λ e. refl;
+        short = λ s. refl;
+        by-set = λ l f. absurd (f z);
         lowest = λ l o c e k. (
           (λ h. absurd (omega arith)),
           (λ j h. none-tallied (c .count) (dangles? o c) (sym (k .total) ∙ z) j (omega arith)),
         );
       }
 
-  pub lowest-found : (r : ℕ) → NextIn work 1024 0 count r → Lowest count work r
-  lowest-found r f =
+  pub lowest-found : 9216 ≤ length work → (getD work 8200 0 ≡ 0 → ⊥) → (r : ℕ) → NextIn work 1024 0 count r → Lowest count work r
+  lowest-found long some r f =
       let w = f .within (omega arith) in
       record {
         within = w .1;
+        by-total = λ z. absurd (some z);
+        short = λ s. absurd (omega arith);
+        by-set = λ l e. f;
         lowest = λ l o c e k. (
           (λ h. sym (k .dangling r (omega arith)) ∙ f .found h),
           (λ j h. sym (k .dangling j (omega arith)) ∙ f .skipped j (omega arith) h),

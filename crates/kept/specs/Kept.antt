@@ -10,7 +10,7 @@
 --   Lowered    a row has an open qubit less; LoweredRows: each row on a qubit
 --   Raised     a row has an open qubit more
 --   Finds      the dangling rows found from the numbers; danglingWord: of up to 64 rows, as a word
---   Lowest     the lowest dangling row
+--   Lowest     the lowest dangling row; that none dangles is told by their number
 use mathlib.Core.Path.{_≡_}
 use mathlib.Core.Bool.{Bool, true, false, _&&_, cond}
 use mathlib.Core.List.{List}
@@ -19,8 +19,8 @@ use lib.Dec.{eqb, ltb}
 use lib.ListN.{length, getD}
 use Rattle.binary.specs.Bits.{_⊕_, tally}
 use Rattle.binary.specs.Meaning.{Qubits, has}
-use Rattle.binary.proofs.NumberBits.{numberOf}
-use Rattle.bitsets.specs.Bitsets.{inSet}
+use Rattle.binary.specs.Words.{numberOf}
+use Rattle.bitsets.specs.Bitsets.{inSet, NextIn}
 use Rattle.machine.specs.Machine.{put, part}
 use Rattle.scans.specs.Rows.{RowLists, readRow, GoodRows}
 
@@ -78,12 +78,13 @@ Numbered i number old new = (j : ℕ) → j < 512 → getD new (8704 + j) 0 ≡ 
 abbrev pub Retallied : ℕ → List ℕ → List ℕ → Type 0
 Retallied i old new = (count : ℕ) → count ≤ 512 → i < count → Tallied count old → Tallied count new
 
--- The rows on the qubits stay. Where the list is long enough and the row's kept number is not 0, that number is one less.
+-- The rows on the qubits stay. Where the list is long enough and the row's kept number is not 0, that number is one less. Otherwise nothing is written, and none is left.
 pub record Lowered (i : ℕ) (old new : List ℕ) (left : ℕ) : Type 0 where
   pub long : length new ≡ length old
   pub below : (k : ℕ) → k < 8192 → getD new k 0 ≡ getD old k 0
   pub past : (k : ℕ) → 9216 ≤ k → getD new k 0 ≡ getD old k 0
   pub lowered : 9216 ≤ length old → i < 512 → 1 ≤ getD old (8704 + i) 0 → (left + 1 ≡ getD old (8704 + i) 0) × Numbered i left old new × Retallied i old new
+  pub refused : (9216 ≤ length old → i < 512 → 1 ≤ getD old (8704 + i) 0 → ⊥) → (new ≡ old) × (left ≡ 0)
 
 -- Nothing but numbers changes. Where the list is long enough, that of the row, which is below 1024 while a qubit of it is not open, is one more. Otherwise
 -- nothing is written.
@@ -117,8 +118,12 @@ pub record LoweredRows (p count : ℕ) (old new : List ℕ) : Type 0 where
   pub kept : 9216 ≤ length old → p < 1024 → count ≤ 512 → (n : ℕ) (c : RowLists) → c .count ≡ count → GoodRows n c
       → (o : Qubits) → o p ≡ true → Kept o c old → RowsOn o c old → Kept (put p false o) c new
 
--- The number of rows, where none dangles.
+-- The number of rows, where none dangles. That is answered from the total: where it is 0, whatever the other elements hold. A short list is answered so too. Otherwise
+-- it is the lowest one of the set.
 pub record Lowest (count : ℕ) (work : List ℕ) (r : ℕ) : Type 0 where
   pub within : r ≤ count
+  pub by-total : getD work 8200 0 ≡ 0 → r ≡ count
+  pub short : length work < 9216 → r ≡ count
+  pub by-set : 9216 ≤ length work → (getD work 8200 0 ≡ 0 → ⊥) → NextIn work 1024 0 count r
   pub lowest : 9216 ≤ length work → (o : Qubits) (c : RowLists) → c .count ≡ count → Kept o c work
       → (r < count → dangles? o c r ≡ true) × ((j : ℕ) → j < r → dangles? o c j ≡ false)

@@ -16,9 +16,9 @@ use rules::in_range;
 use search::Search;
 use states::refused;
 
-// The rank of rows. Where every column is lost the search takes them all, and as many rows clear one as the rank says.
+// The rank of rows. Where every column is lost the search takes them all, and as many rows clear one as the rank says. Where sizes are out of range it is 0.
 fn rank(n: u16, flat: &[u16], ends: &[u16], rows: Rows) -> usize
-    requires { ⌜ (n ≤ 1024) × (rows .count ≤ 512) × (rows .first .0 ≤ 512) ⌝ }
+    requires { ⌜ rows .first .0 ≤ 512 ⌝ }
     ensures { λ r. ⌜ RankOf n (now (flat .entry)) (now (ends .entry)) (rows .first .0) (rows .count) r ⌝ }
 {
     let count = rows.count as usize;

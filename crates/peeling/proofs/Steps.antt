@@ -11,7 +11,6 @@ use borrow.Author.Tests.{leb-true, le-leb, not-false}
 use Rattle.binary.specs.Bits.{below}
 use Rattle.binary.specs.Meaning.{Qubits, Check}
 use Rattle.binary.proofs.Bits.{bit, never, and-out, not-out, not-in, eq-eqb, eqb-eq, below-out, below-in, tally-few, none-counted}
-use Rattle.binary.proofs.Weights.{tally-up}
 use Rattle.machine.specs.Machine.{put, isOpen, dangling}
 use Rattle.machine.specs.Report.{marked}
 use Rattle.machine.specs.Lists.{view}
@@ -19,14 +18,13 @@ use Rattle.machine.specs.Peeling.{peelStep, peeled, peelsAway}
 use Rattle.machine.proofs.Settling.{part-open}
 use Rattle.machine.proofs.Stages.{dangling-is, open-put}
 use Rattle.machine.proofs.Peeling.{peeled-plus, peeled-less, peeled-stays}
-use Rattle.scans.specs.Rows.{RowLists, rowsIn, rowChecks}
-use Rattle.scans.specs.Scans.{OpenFrom, countMarks}
-use Rattle.scans.proofs.Checks.{here}
-use Rattle.scans.proofs.Scanning.{open-below, view-set, rest-set, some-open}
+use Rattle.scans.specs.Rows.{RowLists, rowsIn, checkIn, rowChecks}
+use Rattle.scans.specs.Scans.{OpenFrom, countMarks, OneLess}
+use Rattle.scans.proofs.Scanning.{open-below, view-set, rest-set, some-open, one-less}
 use Rattle.kept.specs.Kept.{dangles?, Kept, Lowest, LoweredRows}
 use Rattle.kept.proofs.Same.{rows-same}
 use Rattle.kept.proofs.Dangling.{dangling-none, found-inside, dangling-found}
-use Rattle.peeling.specs.Peeling.{Lists, openIn, Ready, Stays, Settles, OneStep, fits?, Told, Peels}
+use Rattle.peeling.specs.Peeling.{Lists, openIn, Ready, Stays, Settles, OneStep, enough?, Told, Peels}
 
 pub stays-same : (n : ℕ) (l : Lists) → Stays n l l
 stays-same n l = record { marks-long = refl; work-long = refl; rest = λ q h. refl; below = λ k h. refl; past = λ k h. refl }
@@ -58,12 +56,15 @@ module _ (n : ℕ) (flat ends : List ℕ) (first count : ℕ) (old : Lists) (i :
   step-none h =
       record {
         stays = stays-same n old;
+        by-total = λ z. refl;
+        one = λ e. never e refl;
+        idle = λ e. refl;
         settles = λ e. never e refl;
-        none-dangles = λ e lit ready. (dangling-none o (rows lit) (λ j l. known lit ready .1 j (omega arith)), refl);
+        none-dangles = λ e lit ready. dangling-none o (rows lit) (λ j l. known lit ready .1 j (omega arith));
       }
 
-  module _ (h : i < count) (row : List ℕ) (is : row ≡ here (rows []) i .row) (at : ℕ) (scan : OpenFrom o row 0 at) where
-    found : OpenFrom o (here (rows []) i .row) 0 at
+  module _ (h : i < count) (row : List ℕ) (is : row ≡ checkIn (rows []) i .row) (at : ℕ) (scan : OpenFrom o row 0 at) where
+    found : OpenFrom o (checkIn (rows []) i .row) 0 at
     found = subst (λ (x : List ℕ). OpenFrom o x 0 at) is scan
 
     -- A dangling row has an open qubit.
@@ -71,6 +72,9 @@ module _ (n : ℕ) (flat ends : List ℕ) (first count : ℕ) (old : Lists) (i :
     step-shut l =
         record {
           stays = stays-same n old;
+          by-total = λ z. refl;
+          one = λ e. never e refl;
+          idle = λ e. refl;
           settles = λ e. never e refl;
           none-dangles = λ e lit ready.
               let k = known lit ready in let m = found-inside o (rows lit) i h (k .0 h) (k .1) at found in let d = ap length is in absurd (omega arith);
@@ -119,12 +123,15 @@ module _ (n : ℕ) (flat ends : List ℕ) (first count : ℕ) (old : Lists) (i :
                 below = lowered .below;
                 past = lowered .past;
               };
+              by-total = λ z. let e = low .by-total z in absurd (omega arith);
+              one = λ e. one-less n (old .marks) p 2 p-open refl;
+              idle = λ e. never refl e;
               settles = λ e lit ready.
                   let k = known lit ready in
                   record {
-                    row = (p, here (rows lit) i);
+                    row = (p, checkIn (rows lit) i);
                     dangles = dangling-found o (rows lit) i h (k .0 h) (k .1) at found
-                        ∙ ap (λ (q : ℕ). some (q, here (rows lit) i)) (ap (λ (x : List ℕ). getD x at 0) (sym is) ∙ sym p-is);
+                        ∙ ap (λ (q : ℕ). some (q, checkIn (rows lit) i)) (ap (λ (x : List ℕ). getD x at 0) (sym is) ∙ sym p-is);
                     marks = marks-then;
                     ready = ready-then lit ready;
                   };
@@ -199,11 +206,11 @@ module _ (n : ℕ) (c : RowLists) (old : Lists) where
           marks = marks-told same;
         }
 
-    pub peeling-next : 0 < left → (l′ : Lists) → Settles n c l l′ → Peeling n c old (k + 1) (left - 1) l′
-    peeling-next more l′ v =
+    pub peeling-next : 0 < left → (l′ : Lists) → OneLess n (l .marks) (l′ .marks) → Settles n c l l′ → Peeling n c old (k + 1) (left - 1) l′
+    peeling-next more l′ less v =
         record {
           steps = let z = s .steps in omega arith;
-          count = let z = fewer in let y = s .count in omega arith;
+          count = let y = s .count in omega (arith, less);
           opened = opened-then;
           marks = λ q. ap (λ (f : ℕ → ℕ). f q) (v .marks) ∙ bit (eqb (v .row .0) q) (λ e. rw e (at q (eqb-eq (v .row .0) q e))) (λ e. rw e (s .marks q ∙ off q e));
           ready = v .ready;
@@ -220,11 +227,6 @@ module _ (n : ℕ) (c : RowLists) (old : Lists) where
 
         shut-now : openIn n l′ (v .row .0) ≡ false
         shut-now = ap (λ (f : Qubits). f (v .row .0)) (opened-then ∙ next-is) ∙ rw (eq-eqb (v .row .0))
-
-        fewer : marked n (view n (l .marks)) 4 ≡ suc (marked n (view n (l′ .marks)) 4)
-        fewer =
-            tally-up n (v .row .0) (openIn n l′) (openIn n l) (open-below n (l .marks) (v .row .0) p-open) shut-now p-open
-            (λ q e. sym (ap (λ (f : Qubits). f q) (opened-then ∙ next-is) ∙ rw e))
 
         at : (q : ℕ) → v .row .0 ≡ q → 2 ≡ cond (o₀ q && not (peeled cs (k + 1) o₀ q)) 2 (view n (old .marks) q)
         at q e =
@@ -252,8 +254,8 @@ pub record Room (n first count long words : ℕ) : Type 0 where
   pub marks : n ≤ long
   pub work : 9216 ≤ words
 
-pub room : (n first count marks work : ℕ) → fits? n first count marks work ≡ true → Room n first count marks work
-unfolding fits?
+pub room : (n first count marks work : ℕ) → enough? n first count marks work ≡ true → Room n first count marks work
+unfolding enough?
 room n first count marks work t =
     let a = and-out (leb n 1024 && leb count 512 && leb (first + count) 1024 && leb n marks) (leb 9216 work) t in
     let b = and-out (leb n 1024 && leb count 512 && leb (first + count) 1024) (leb n marks) (a .0) in
@@ -261,27 +263,27 @@ room n first count marks work t =
     let e = and-out (leb n 1024) (leb count 512) (d .0) in
     record { size = leb-true _ _ (e .0); few = leb-true _ _ (e .1); last = leb-true _ _ (d .1); marks = leb-true _ _ (b .1); work = leb-true _ _ (a .1) }
 
-pub fits-told : (n first count marks work : ℕ) (told : Bool) → told ≡ fits? n first count marks work → not told ≡ false → fits? n first count marks work ≡ true
-fits-told n first count marks work told e t = bit (fits? n first count marks work) (λ y. y) (λ y. never (ap not (e ∙ y)) t)
+pub enough-told : (n first count marks work : ℕ) (told : Bool) → told ≡ enough? n first count marks work → not told ≡ false → enough? n first count marks work ≡ true
+enough-told n first count marks work told e t = bit (enough? n first count marks work) (λ y. y) (λ y. never (ap not (e ∙ y)) t)
 
 module _ (n : ℕ) (flat ends : List ℕ) (first count : ℕ) (old : Lists) where
-  abbrev fitting : Bool
-  fitting = fits? n first count (length (old .marks)) (length (old .work))
+  abbrev enoughHere : Bool
+  enoughHere = enough? n first count (length (old .marks)) (length (old .work))
 
-  pub peels-refused : (told : Bool) → told ≡ fitting → not told ≡ true → Peels n flat ends first count old old false
+  pub peels-refused : (told : Bool) → told ≡ enoughHere → not told ≡ true → Peels n flat ends first count old old false
   peels-refused told e t = record { stays = stays-same n old; refused = λ u. (refl, refl); told = λ u. never u (sym e ∙ not-out told t) }
 
-  pub goes-start : (left : ℕ) → fitting ≡ true → left ≡ countMarks n (old .marks) 4 → Goes n flat ends first count old left old
-  goes-start left fit e =
-      let counted : left ≡ marked n (view n (old .marks)) 4 = e ∙ rw (le-leb n (length (old .marks)) (room n first count (length (old .marks)) (length (old .work)) fit .marks)) in
+  pub goes-start : (left : ℕ) → enoughHere ≡ true → left ≡ countMarks n (old .marks) 4 → Goes n flat ends first count old left old
+  goes-start left enough e =
+      let counted : left ≡ marked n (view n (old .marks)) 4 = e ∙ rw (le-leb n (length (old .marks)) (room n first count (length (old .marks)) (length (old .work)) enough .marks)) in
       record { stays = stays-same n old; so = λ lit ready. (0, peeling-start n (rowsIn flat ends first count lit) old left counted ready) }
 
-  module _ (left : ℕ) (l : Lists) (g : Goes n flat ends first count old left l) (fit : fitting ≡ true) where
+  module _ (left : ℕ) (l : Lists) (g : Goes n flat ends first count old left l) (enough : enoughHere ≡ true) where
     pub peels-done : left ≡ 0 → Peels n flat ends first count old l true
     peels-done e =
         record {
           stays = g .stays;
-          refused = λ u. never fit u;
+          refused = λ u. never enough u;
           told = λ u lit ready. let z = g .so lit ready in peeling-done n (rowsIn flat ends first count lit) old (z .0) left l (z .1) e;
         }
 
@@ -290,12 +292,11 @@ module _ (n : ℕ) (flat ends : List ℕ) (first count : ℕ) (old : Lists) wher
       peels-stuck e =
           record {
             stays = stays-on n old l l′ (g .stays) (step .stays);
-            refused = λ u. never fit u;
+            refused = λ u. never enough u;
             told = λ u lit ready.
                 let z = g .so lit ready in
-                let w = step .none-dangles (not-out r e) lit (z .1 .ready) in
-                let t = peeling-stuck n (rowsIn flat ends first count lit) old (z .0) left l (z .1) more (w .0) in
-                record { answer = t .answer; marks = λ q. ap (λ (m : List ℕ). view n m q) (w .1) ∙ t .marks q };
+                let t = peeling-stuck n (rowsIn flat ends first count lit) old (z .0) left l (z .1) more (step .none-dangles (not-out r e) lit (z .1 .ready)) in
+                record { answer = t .answer; marks = λ q. ap (λ (x : Lists). view n (x .marks) q) (step .idle (not-out r e)) ∙ t .marks q };
           }
 
       pub goes-on : not r ≡ false → Goes n flat ends first count old (left - 1) l′
@@ -304,5 +305,5 @@ module _ (n : ℕ) (flat ends : List ℕ) (first count : ℕ) (old : Lists) wher
             stays = stays-on n old l l′ (g .stays) (step .stays);
             so = λ lit ready.
                 let z = g .so lit ready in
-                (z .0 + 1, peeling-next n (rowsIn flat ends first count lit) old (z .0) left l (z .1) more l′ (step .settles (not-false r e) lit (z .1 .ready)));
+                (z .0 + 1, peeling-next n (rowsIn flat ends first count lit) old (z .0) left l (z .1) more l′ (step .one (not-false r e)) (step .settles (not-false r e) lit (z .1 .ready)));
           }

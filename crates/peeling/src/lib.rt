@@ -2,7 +2,7 @@
 ghost use mathlib.Core.Path.{_≡_};
 ghost use Prim.Native.Nat.{_+_, _≤_};
 ghost use lib.ListN.{length};
-ghost use Rattle.peeling.specs.Peeling.{OneStep, fits?, Peels};
+ghost use Rattle.peeling.specs.Peeling.{OneStep, enough?, Peels};
 use code::Qubit;
 use code::Row;
 use code::Rows;
@@ -37,8 +37,8 @@ fn peel_one(
 }
 
 // Whether the sizes are document 01's and the lists long enough.
-fn fits(n: u16, rows: Rows, marks: &[u8], work: &[u64]) -> bool
-    ensures { λ r. ⌜ r ≡ fits? n (rows .first .0) (rows .count) (length (now (marks .entry))) (length (now (work .entry))) ⌝ }
+fn is_enough(n: u16, rows: Rows, marks: &[u8], work: &[u64]) -> bool
+    ensures { λ r. ⌜ r ≡ enough? n (rows .first .0) (rows .count) (length (now (marks .entry))) (length (now (work .entry))) ⌝ }
 {
     let first = rows.first;
     let last = first.0 as usize + rows.count as usize;
@@ -60,7 +60,7 @@ pub fn peels_away(
 ) -> bool
     ensures { λ r. ⌜ Peels n (now (flat .entry)) (now (ends .entry)) (rows .first .0) (rows .count) (record { marks = now (marks .entry); work = now (work .entry) }) (record { marks = now (marks .exit); work = now (work .exit) }) r ⌝ }
 {
-    if !fits(n, rows, marks, work) {
+    if !is_enough(n, rows, marks, work) {
         return false;
     }
     let size = n as usize;

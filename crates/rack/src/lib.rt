@@ -9,9 +9,9 @@ ghost use Rattle.plain.specs.Plain.{plainState};
 ghost use Rattle.rack.specs.Promise.{version, RackPromise};
 ghost use Rattle.rack.specs.Candidates.{RackGives};
 ghost use Rattle.rack.specs.Counts.{rackWindow};
+use counts::RackCounts;
 use plain::RackReply;
 use plain::RackState;
-use counts::RackCounts;
 
 // One more whenever a call, a list or a struct changes.
 const VERSION: u16 = 8;

@@ -3,12 +3,14 @@
 --   widthIn     how many qubits a row has
 --   unknown?    whether no kind was named; decode?: whether it is that of a decode
 --   RecordAs    the bytes are this record
+--   RowBody     an array has the numbers of a row's body, and 0 behind them
 use mathlib.Core.Path.{_≡_}
 use mathlib.Core.Bool.{Bool, true, false}
 use mathlib.Core.Option.{Option, none, some}
+use mathlib.Core.Logic.{_⊎_}
 use mathlib.Core.List.{List}
-use Prim.Native.Nat.{ℕ, _≤_}
-use lib.ListN.{getD}
+use Prim.Native.Nat.{ℕ, _≤_, _<_}
+use lib.ListN.{getD, take}
 use Rattle.reading.specs.declared.Shape.{Shape}
 use Rattle.reading.specs.declared.Shape.the-variants.{Unknown, Wrong, Size, Lose, Light, Unread, Decode, Logical}
 use Rattle.records.specs.Records.{pauli, lost, lit, unread, Kind, sizes, decode, logical, rowOf, member, unknown, wrong, size, row, add, report, encodes, number, numbers, recordOf}
@@ -68,3 +70,8 @@ RecordAs bytes (Light x) = recordOf bytes ≡ add (lit (pauli x)) (number bytes 
 RecordAs bytes (Unread x) = recordOf bytes ≡ add (unread (pauli x)) (number bytes 1)
 RecordAs bytes Decode = recordOf bytes ≡ report (getD bytes 1 0) (number bytes 2)
 RecordAs bytes Logical = recordOf bytes ≡ encodes (number bytes 1)
+
+-- Of w numbers; a row has at most 16, and of more there are none.
+pub record RowBody (bytes : List ℕ) (w : ℕ) (r : List ℕ) : Type 0 where
+  pub first : w ≤ 16 → take w r ≡ numbers bytes 1 w
+  pub rest : (k : ℕ) → (w ≤ k) ⊎ (16 < w) → getD r k 0 ≡ 0

@@ -1,9 +1,9 @@
 // The numbers in a record's bytes.
 ghost use mathlib.Core.Path.{_≡_};
 ghost use Prim.Native.Nat.{_<_, _≤_};
-ghost use lib.ListN.{getD, take};
-ghost use Rattle.records.specs.Records.{numbers};
+ghost use lib.ListN.{getD};
 ghost use Rattle.records.specs.Records;
+ghost use Rattle.reading.specs.Shapes.{RowBody};
 
 // The byte at place i; past the end there is 0.
 pub fn byte_at(bytes: &[u8], i: usize) -> u8
@@ -34,9 +34,9 @@ pub fn number(bytes: &[u8], i: usize) -> u16
     low + 256 * high
 }
 
-// The w numbers of a row's body, at the start of an array; a row has at most 16.
+// The w numbers of a row's body, at the start of an array, and 0 behind them; a row has at most 16.
 pub fn qubits_of(bytes: &[u8], w: usize) -> [u16; 16]
-    ensures { λ r. ⌜ (w ≤ 16 → take w r ≡ numbers (now (bytes .entry)) 1 w) ⌝ }
+    ensures { λ r. ⌜ RowBody (now (bytes .entry)) w r ⌝ }
 {
     let mut qubits = [0u16; 16];
     if 16 < w {

@@ -9,16 +9,17 @@ use native.Mathlib.Omega.{arith}
 use borrow.Author.Tests.{lt-ltb, le-ltb, ltb-true, le-leb, lt-leb, ne-eqb}
 use borrow.Author.Tests
 use lib.Dec.{eqb, ltb}
-use lib.ListN.{length, getD, set, drop, drop-of-length-le}
+use lib.ListN.{length, getD, set, drop, drop-of-length-le, List·getD-eq-default}
 use lib.Seq.{drop-cons, getD-set-same, getD-set-other}
 use Rattle.binary.specs.Meaning.{Qubits}
 use Rattle.binary.specs.Bits.{below}
 use Rattle.binary.proofs.Bits.{bit, never, eqb-eq, eq-eqb, counted-none}
+use Rattle.binary.proofs.Weights.{tally-up}
 use Rattle.binary.proofs.WordBits.{order}
 use Rattle.machine.specs.Machine.{put, isOpen, part}
 use Rattle.machine.specs.Report.{marked}
 use Rattle.machine.specs.Lists.{view}
-use Rattle.scans.specs.Scans.{OpenFrom, countMarks}
+use Rattle.scans.specs.Scans.{OpenFrom, countMarks, OneLess}
 
 ----------------------------------------------------------------------
 -- Marks read
@@ -35,6 +36,10 @@ open-read n marks q h = rw (lt-ltb q n h)
 -- An open qubit is below n.
 pub open-below : (n : ℕ) (marks : List ℕ) (q : ℕ) → isOpen (view n marks) q ≡ true → q < n
 open-below n marks q e = bit (ltb q n) (λ t. ltb-true q n t) (λ t. never e (rw t))
+
+-- And has its mark in the list.
+pub open-inside : (n : ℕ) (marks : List ℕ) (q : ℕ) → isOpen (view n marks) q ≡ true → q < length marks
+open-inside n marks q e = ⊎-elim (λ (h : q < length marks). h) (λ (h : length marks ≤ q). never (open-read n marks q (open-below n marks q e) ∙ e) (rw (List·getD-eq-default {A = ℕ} marks 0 h))) (order q (length marks))
 
 ----------------------------------------------------------------------
 -- Marks counted
@@ -75,6 +80,16 @@ rest-set n l p v i q j = getD-set-other l p q v 0 (λ k. absurd (omega arith))
 pub some-open : (n left : ℕ) (marks : List ℕ) → left ≡ marked n (view n marks) 4 → 0 < left → below n (λ q. not (isOpen (view n marks) q)) ≡ false
 some-open n left marks e l =
     bit (below n (λ q. not (isOpen (view n marks) q))) (λ t. let z = counted-none n (isOpen (view n marks)) t in absurd (omega arith)) (λ t. t)
+
+-- An open qubit gets another mark.
+pub one-less : (n : ℕ) (marks : List ℕ) (p m : ℕ) → isOpen (view n marks) p ≡ true → eqb m 4 ≡ false → OneLess n marks (set marks p m)
+one-less n marks p m is-open other = tally-up n p (isOpen (view n (set marks p m))) (isOpen (view n marks)) below (now p ∙ rw (eq-eqb p) other) is-open (λ q e. sym (now q ∙ rw e))
+  where
+    below : p < n
+    below = open-below n marks p is-open
+
+    now : (q : ℕ) → isOpen (view n (set marks p m)) q ≡ isOpen (put p m (view n marks)) q
+    now q = ap (λ (f : ℕ → ℕ). isOpen f q) (view-set n marks p m below (open-inside n marks p is-open))
 
 ----------------------------------------------------------------------
 -- A row's open qubits

@@ -6,9 +6,10 @@ use mathlib.Core.Option.{Option, none, some}
 use Prim.Native.Nat.{ℕ, zero, suc, _≤_, _<_}
 use native.Mathlib.Nat.{not-suc-le-zero, le-of-suc-le-suc, eq-or-lt-of-le}
 use native.Mathlib.Omega.{arith}
-use borrow.Author.Tests.{lt-ltb, le-ltb}
+use borrow.Author.Tests.{lt-ltb, le-ltb, ltb-true, ltb-false}
 use lib.Dec.{ltb}
 use Rattle.binary.specs.Meaning.{Qubits}
+use Rattle.binary.proofs.Bits.{never}
 use Rattle.search.specs.Route.{earlier, first, shorter, shortest}
 
 ----------------------------------------------------------------------
@@ -86,3 +87,33 @@ module _ (len : ℕ → ℕ) (u : Qubits) where
       stays : (b : Bool) → u n ≡ b → shorter b len n (some q) ≡ some q
       stays true e = ap (λ (b : Bool). cond b (some n) (some q)) (le-ltb (len n) (len q) (least n (omega arith) e))
       stays false e = refl
+
+  -- No untaken one is shorter.
+  abbrev Least : ℕ → Option ℕ → Type 0
+  Least n none = Unit {0}
+  Least n (some q) = (p : ℕ) → p < n → u p ≡ true → len q ≤ len p
+
+  least-out : (n : ℕ) → Least n (shortest len n u)
+  least-out zero = tt
+  least-out (suc n) = look (u n) refl (shortest len n u) (shortest-out n) (least-out n)
+    where
+      upTo : (q : ℕ) → len q ≤ len n → ((p : ℕ) → p < n → u p ≡ true → len q ≤ len p) → Least (suc n) (some q)
+      upTo q at below p l t = ⊎-elim (λ (d : p ≡ n). rw d at) (λ (d : p < n). below p d t) (eq-or-lt-of-le (le-of-suc-le-suc l))
+
+      pick : (q : ℕ) → Least n (some q) → (b : Bool) → ltb (len n) (len q) ≡ b → Least (suc n) (cond b (some n) (some q))
+      pick q h true e = let less = ltb-true (len n) (len q) e in upTo n (omega arith) (λ p d t. omega (arith, h p d t))
+      pick q h false e = let more = ltb-false (len n) (len q) e in upTo q (omega arith) h
+
+      look : (b : Bool) → u n ≡ b → (r : Option ℕ) → Among n r → Least n r → Least (suc n) (shorter b len n r)
+      look false e none a h = tt
+      look false e (some q) a h = λ p l t. ⊎-elim (λ (d : p ≡ n). never (subst (λ (x : ℕ). u x ≡ true) d t) e) (λ (d : p < n). h p d t) (eq-or-lt-of-le (le-of-suc-le-suc l))
+      look true e none a h = upTo n (omega arith) (λ p d t. never t (a p d))
+      look true e (some q) a h = pick q h (ltb (len n) (len q)) refl
+
+  pub shortest-least : (n q : ℕ) → shortest len n u ≡ some q → (p : ℕ) → p < n → u p ≡ true → len q ≤ len p
+  shortest-least n q e = subst (Least n) e (least-out n)
+
+-- It looks at the columns below n.
+pub shortest-same : (len : ℕ → ℕ) (u v : Qubits) (n : ℕ) → ((p : ℕ) → p < n → u p ≡ v p) → shortest len n u ≡ shortest len n v
+shortest-same len u v zero h = refl
+shortest-same len u v (suc n) h = ap₂ (λ (b : Bool) (r : Option ℕ). shorter b len n r) (h n (omega arith)) (shortest-same len u v n (λ p l. h p (omega arith)))

@@ -9,7 +9,7 @@ use native.Mathlib.Numerals.{add-one}
 use native.Mathlib.Omega.{arith}
 use borrow.Author.Tests.{le-leb, lt-ltb, le-ltb}
 use lib.Dec.{eqb, leb, ltb}
-use lib.ListN as lists
+use lib.ListN.{length}
 use Rattle.binary.specs.Meaning.{Qubits}
 use Rattle.packing.specs.Packed.{cell}
 use Rattle.columns.specs.Planes.{number}
@@ -17,8 +17,8 @@ use Rattle.columns.specs.Columns.{untaken, rowsWith, Numbered}
 use Rattle.choosing.specs.declared.Shortest.{Shortest}
 use Rattle.choosing.specs.Choosing.{ShortestOf, room?}
 use Rattle.choosing.specs.Choosing as choosing
-use Rattle.search.specs.Route.{Stand, length, without, takeBy, take, shortest, stepBy, step, steps}
-use Rattle.search.specs.Search.{Takes, rowOf, standOf, Same, Sound, Knowns}
+use Rattle.search.specs.Route.{Stand, columnLength, without, takeBy, takeColumn, shortest, stepBy, step, steps, Same}
+use Rattle.search.specs.Search.{Takes, rowOf, standOf, Sound, Knowns}
 use Rattle.binary.proofs.Bits.{bit, &&-true, and-in, and-out, tally-same}
 use Rattle.binary.proofs.WordBits.{order}
 use Rattle.numbering.proofs.Counting.{row-ends}
@@ -31,21 +31,21 @@ use Rattle.search.proofs.Stands.{numbered-less, untaken-word, columns-s
 -- The shortest column is taken
 
 module _ (n w rows top : ℕ) (m₀ m : List ℕ) (found : Shortest) (wide : n ≤ 64 * w) (few : w ≤ 16) (enough : rows ≤ 512) (within : top ≤ rows)
-    (room : 10240 ≤ lists.length m₀) (sound : Sound n w rows top m₀) (t : choosing.Takes w m₀ m found) where
-  roomy : room? (lists.length m₀) w ≡ true
+    (room : 10240 ≤ length m₀) (sound : Sound n w rows top m₀) (t : choosing.Takes w m₀ m found) where
+  roomy : room? (length m₀) w ≡ true
   unfolding room?
-  roomy = and-in (le-leb w 16 few) (le-leb 10240 (lists.length m₀) room)
+  roomy = and-in (le-leb w 16 few) (le-leb 10240 (length m₀) room)
 
   so : ShortestOf w m₀ (found .column) (found .rows)
   so = t .shortest roomy
 
   -- The length of a column, by the work list.
-  length-is : (q : ℕ) → q < n → length rows (standOf n w rows top m₀) q ≡ rowsWith m₀ w top rows q
+  length-is : (q : ℕ) → q < n → columnLength rows (standOf n w rows top m₀) q ≡ rowsWith m₀ w top rows q
   length-is q h =
       tally-same rows (λ i. leb top i && cell m₀ w i q) (λ i. rowOf n w rows top m₀ i q)
       (λ i l. rw (lt-ltb i rows l, lt-ltb q n h) (ap (_&& cell m₀ w i q) (&&-true (leb top i) refl)))
 
-  length-number : (q : ℕ) → q < n → untaken m₀ q ≡ true → length rows (standOf n w rows top m₀) q ≡ number m₀ q
+  length-number : (q : ℕ) → q < n → untaken m₀ q ≡ true → columnLength rows (standOf n w rows top m₀) q ≡ number m₀ q
   length-number q h u = length-is q h ∙ sym (sound .1 q (omega arith) u)
 
   is-untaken : (q : ℕ) → (ltb q n && untaken m₀ q) ≡ true → untaken m₀ q ≡ true
@@ -54,7 +54,7 @@ module _ (n w rows top : ℕ) (m₀ m : List ℕ) (found : Shortest) (wide : n �
   -- No column is untaken.
   pub none-taken : found .rows ≡ 1024 → step n rows (standOf n w rows top m₀) ≡ standOf n w rows top m₀
   none-taken e =
-      ap (λ (r : Option ℕ). stepBy rows r (standOf n w rows top m₀)) (shortest-none (length rows (standOf n w rows top m₀)) (λ q. ltb q n && untaken m₀ q) n
+      ap (λ (r : Option ℕ). stepBy rows r (standOf n w rows top m₀)) (shortest-none (columnLength rows (standOf n w rows top m₀)) (λ q. ltb q n && untaken m₀ q) n
       (λ p l. bit (ltb p n && untaken m₀ p) (λ d. absurd (omega (arith, so .least p (omega arith) (is-untaken p d) .0))) (λ d. d)))
 
   -- Otherwise the column has fewer rows.
@@ -68,10 +68,10 @@ module _ (n w rows top : ℕ) (m₀ m : List ℕ) (found : Shortest) (wide : n �
     pub column-in : found .column < n
     column-in = sound .0 (found .column) (got .0) (got .1)
 
-    shortest-taken : step n rows (standOf n w rows top m₀) ≡ take rows (found .column) (standOf n w rows top m₀)
+    shortest-taken : step n rows (standOf n w rows top m₀) ≡ takeColumn rows (found .column) (standOf n w rows top m₀)
     shortest-taken =
         let e = length-number (found .column) column-in (got .1) ∙ got .2 in
-        ap (λ (r : Option ℕ). stepBy rows r (standOf n w rows top m₀)) (shortest-some (length rows (standOf n w rows top m₀)) (λ q. ltb q n && untaken m₀ q) n (found .column) column-in
+        ap (λ (r : Option ℕ). stepBy rows r (standOf n w rows top m₀)) (shortest-some (columnLength rows (standOf n w rows top m₀)) (λ q. ltb q n && untaken m₀ q) n (found .column) column-in
         (and-in (lt-ltb (found .column) n column-in) (got .1))
         (λ p l u. omega (arith, e, so .least p (omega arith) (is-untaken p u) .1, length-number p l (is-untaken p u)))
         (λ p l u. omega (arith, e, so .lowest p l (is-untaken p u), length-number p (omega (arith, column-in)) (is-untaken p u))))
@@ -98,8 +98,8 @@ module _ (n w rows top : ℕ) (m₀ m : List ℕ) (found : Shortest) (wide : n �
 
       taken-stands : standOf n w rows r m′ ≡ step n rows (standOf n w rows top m₀)
       taken-stands =
-          stand-eq (standOf n w rows r m′) (take rows (found .column) (standOf n w rows top m₀)) (fun-ext at ∙ sym (take-untaken rows (found .column) (standOf n w rows top m₀)))
-          (same-trans (standOf n w rows r m′) (take rows (found .column) (standOf n w rows top m)) (take rows (found .column) (standOf n w rows top m₀))
+          stand-eq (standOf n w rows r m′) (takeColumn rows (found .column) (standOf n w rows top m₀)) (fun-ext at ∙ sym (take-untaken rows (found .column) (standOf n w rows top m₀)))
+          (same-trans (standOf n w rows r m′) (takeColumn rows (found .column) (standOf n w rows top m)) (takeColumn rows (found .column) (standOf n w rows top m₀))
           (takes-stand n w rows top (found .column) m m′ r wide column-in x) (take-same rows (found .column) (standOf n w rows top m) (standOf n w rows top m₀)
           (columns-same top m₀ m (λ k h. t .kept (9216 + k) (inr (omega arith))), row-same n w rows top m₀ m wide few enough (λ k h. t .kept k (inl (omega arith))))))
           ∙ sym shortest-taken
@@ -121,12 +121,12 @@ module _ (n w rows top : ℕ) (m₀ m : List ℕ) (found : Shortest) (wide : n �
       taken-within : r ≤ rows
       taken-within = ⊎-elim (λ y. omega (arith, y .0)) (λ y. omega (arith, y .0, y .1 .column .start, y .1 .column .within)) x
 
-      taken-long : lists.length m′ ≡ lists.length m₀
-      taken-long = ⊎-elim (λ y. ap lists.length (y .1)) (λ y. y .1 .long) x ∙ t .long
+      taken-long : length m′ ≡ length m₀
+      taken-long = ⊎-elim (λ y. ap length (y .1)) (λ y. y .1 .long) x ∙ t .long
 
       -- The invariant of the pass.
-      pub known-more : (k : ℕ) (s : Stand) (long : ℕ) → k < n → lists.length m₀ ≡ long → standOf n w rows top m₀ ≡ steps n rows k s
-          → (k + 1 ≤ n) × (r ≤ rows) × (lists.length m′ ≡ long) × Sound n w rows r m′ × (standOf n w rows r m′ ≡ steps n rows (k + 1) s)
+      pub known-more : (k : ℕ) (s : Stand) (long : ℕ) → k < n → length m₀ ≡ long → standOf n w rows top m₀ ≡ steps n rows k s
+          → (k + 1 ≤ n) × (r ≤ rows) × (length m′ ≡ long) × Sound n w rows r m′ × (standOf n w rows r m′ ≡ steps n rows (k + 1) s)
       known-more k s long h d e = (omega arith, taken-within, taken-long ∙ d, taken-sound, taken-stands ∙ rw add-one (ap (step n rows) e))
 
 ----------------------------------------------------------------------
@@ -141,7 +141,7 @@ steps-idle n rows k (suc d) s t e i =
 
 -- Once no row is left, only the untaken columns change.
 step-empty : (n rows : ℕ) (s : Stand) → ((i q : ℕ) → s .row i q ≡ false) → Same (step n rows s) s
-step-empty n rows s h = by (shortest (length rows s) n (s .untaken))
+step-empty n rows s h = by (shortest (columnLength rows s) n (s .untaken))
   where
     by : (r : Option ℕ) → Same (stepBy rows r s) s
     by none = (refl, refl)
@@ -154,7 +154,7 @@ steps-empty n rows k (suc d) s t e h =
     let r = steps-empty n rows k d s t e h in
     rw z (same-trans (step n rows (steps n rows (d + k) s)) (steps n rows (d + k) s) t (step-empty n rows (steps n rows (d + k) s) (λ i q. ap (λ (x : ℕ → Qubits). x i q) (r .1) ∙ h i q)) r)
 
-module _ (n w rows k top : ℕ) (m₀ m : List ℕ) (within : top ≤ rows) (long : lists.length m ≡ lists.length m₀) (h : k ≤ n) (e : standOf n w rows top m ≡ steps n rows k (standOf n w rows 0 m₀)) where
+module _ (n w rows k top : ℕ) (m₀ m : List ℕ) (within : top ≤ rows) (long : length m ≡ length m₀) (h : k ≤ n) (e : standOf n w rows top m ≡ steps n rows k (standOf n w rows 0 m₀)) where
   pub knowns-end : k ≡ n → Knowns n w rows m₀ top m
   knowns-end d = record { long = long; within = within; stands = same-eq (standOf n w rows top m) (steps n rows n (standOf n w rows 0 m₀)) (rw d at e) }
 
@@ -163,7 +163,7 @@ module _ (n w rows k top : ℕ) (m₀ m : List ℕ) (within : top ≤ rows) (lon
   knowns-idle m′ d i =
       let z : (n - k) + k ≡ n = omega arith in
       record {
-        long = ap lists.length d ∙ long;
+        long = ap length d ∙ long;
         within = within;
         stands = rw d (same-eq (standOf n w rows top m) (steps n rows n (standOf n w rows 0 m₀))
             (sym (rw z at (steps-idle n rows k (n - k) (standOf n w rows 0 m₀) (standOf n w rows top m) (sym e) i))));

@@ -4,6 +4,7 @@ pub mod Stands
 pub mod Knowns
 pub mod Losts
 pub mod Route
+pub mod Empty
 pub mod Marked
 pub mod Examples
 pub mod Ranks

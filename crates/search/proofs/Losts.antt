@@ -10,12 +10,11 @@ use native.Mathlib.Numerals.{add-one}
 use native.Mathlib.Omega.{arith}
 use borrow.Author.Tests.{lt-ltb, eq-eqb, ne-eqb}
 use lib.Dec.{eqb}
-use lib.ListN.{length-set, getD, set}
-use lib.ListN as lists
+use lib.ListN.{length, length-set, getD, set}
 use lib.Seq.{getD-set-same, getD-set-other}
 use Rattle.binary.specs.Meaning.{Qubits}
 use Rattle.binary.specs.Words.{listed}
-use Rattle.search.specs.Route.{some?, take, ascend, first}
+use Rattle.search.specs.Route.{some?, takeColumn, ascend, first}
 use Rattle.search.specs.Search.{Takes, standOf, LostTaken, Losts}
 use Rattle.binary.proofs.WordBits.{order}
 use Rattle.search.proofs.Stands.{same-trans, take-if-same, takes-stand, clearing-by}
@@ -46,11 +45,11 @@ module _ (n w rows : ℕ) (lost : List ℕ) (q top : ℕ) (m marks : List ℕ) (
     is-lost : listed n lost q ≡ true
     is-lost = listed-at ∙ eq-eqb (getD lost q 0) 1 l
 
-    lost-taken : (marks′ : List ℕ) → lists.length marks′ ≡ lists.length marks → getD marks′ q 0 ≡ cond (not (eqb r top)) 1 (getD marks q 0)
+    lost-taken : (marks′ : List ℕ) → length marks′ ≡ length marks → getD marks′ q 0 ≡ cond (not (eqb r top)) 1 (getD marks q 0)
         → ((p : ℕ) → (p ≡ q → ⊥) → getD marks′ p 0 ≡ getD marks p 0) → LostTaken n w rows lost q top m marks r m′ marks′
     lost-taken marks′ size here other =
         record {
-          long = ⊎-elim (λ y. ap lists.length (y .1)) (λ y. y .1 .long) x;
+          long = ⊎-elim (λ y. ap length (y .1)) (λ y. y .1 .long) x;
           size = size;
           low = ⊎-elim (λ y. omega (arith, y .0)) (λ y. omega (arith, y .0)) x;
           within = ⊎-elim (λ y. omega (arith, y .0)) (λ y. omega (arith, y .0, y .1 .column .start, y .1 .column .within)) x;
@@ -63,7 +62,7 @@ module _ (n w rows : ℕ) (lost : List ℕ) (q top : ℕ) (m marks : List ℕ) (
     pub lost-blank : r ≡ top → LostTaken n w rows lost q top m marks top m′ marks
     lost-blank e = rw e at (lost-taken marks refl (rw (eq-eqb r top e)) (λ p d. refl))
 
-    pub lost-marked : (r ≡ top → ⊥) → n ≤ lists.length marks → LostTaken n w rows lost q top m marks r m′ (set marks q 1)
+    pub lost-marked : (r ≡ top → ⊥) → n ≤ length marks → LostTaken n w rows lost q top m marks r m′ (set marks q 1)
     lost-marked d room =
         lost-taken (set marks q 1) (length-set marks q 1) (getD-set-same marks q 1 0 (omega arith) ∙ rw (ne-eqb r top d))
         (λ p e. getD-set-other marks q p 1 0 e)
@@ -94,7 +93,7 @@ module _ (n w rows : ℕ) (lost : List ℕ) (top : ℕ) (m marks : List ℕ) whe
         low = omega (arith, x .low, s .low);
         within = x .within;
         order = λ k h. x .order k (omega (arith, s .low)) ∙ s .order k h;
-        stands = rw add-one (same-trans (standOf n w rows r₂ m₂) (cond (listed n lost q) (take rows q (standOf n w rows r₁ m₁)) (standOf n w rows r₁ m₁)) (ascend rows (listed n lost) (suc q) (standOf n w rows top m)) (x .stands)
+        stands = rw add-one (same-trans (standOf n w rows r₂ m₂) (cond (listed n lost q) (takeColumn rows q (standOf n w rows r₁ m₁)) (standOf n w rows r₁ m₁)) (ascend rows (listed n lost) (suc q) (standOf n w rows top m)) (x .stands)
             (take-if-same rows q (standOf n w rows r₁ m₁) (ascend rows (listed n lost) q (standOf n w rows top m)) (listed n lost q) (s .stands)));
         marked = λ p h. ⊎-elim
             (λ (g : p < q). x .kept p (λ e. omega arith) ∙ s .marked p g)

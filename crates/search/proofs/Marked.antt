@@ -15,9 +15,9 @@ use Rattle.packing.specs.Packed.{wordsFor, Packed}
 use Rattle.columns.specs.Columns.{untaken}
 use Rattle.numbering.specs.Numbering.{startable?, Started, Starts}
 use Rattle.search.specs.declared.Search.the-variants.{Short, Made}
-use Rattle.search.specs.Route.{first, some?, clearing, steps, ascend, begin, known, route}
+use Rattle.search.specs.Route.{first, some?, clearing, steps, ascend, begin, known, route, Same}
 use Rattle.search.specs.Marked.{enough, Searched, Marked}
-use Rattle.search.specs.Search.{ColumnsIn, rowOf, standOf, Same, Sound, Knowns, Losts}
+use Rattle.search.specs.Search.{ColumnsIn, rowOf, standOf, Sound, Knowns, Losts}
 use Rattle.binary.proofs.Bits.{bit, never, and-in, and-out}
 use Rattle.binary.proofs.Rows.{all-out, has-below}
 use Rattle.binary.proofs.WordBits.{order}

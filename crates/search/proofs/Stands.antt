@@ -17,9 +17,9 @@ use Rattle.binary.specs.Meaning.{Qubits}
 use Rattle.binary.specs.Words.{bit as word-bit}
 use Rattle.packing.specs.Packed.{cell}
 use Rattle.columns.specs.Columns.{untaken, Numbered}
-use Rattle.search.specs.Route.{Stand, first, some?, former, cleared, without, takeBy, clearing, take, ascend}
+use Rattle.search.specs.Route.{Stand, first, some?, former, cleared, without, takeBy, clearing, takeColumn, ascend, Same}
 use Rattle.search.specs.Marked.{columnsOf}
-use Rattle.search.specs.Search.{Column, Clears, Takes, rowOf, standOf, Same}
+use Rattle.search.specs.Search.{Column, Clears, Takes, rowOf, standOf}
 use Rattle.binary.proofs.Bits.{bit, &&-false, tally-same}
 use Rattle.binary.proofs.WordBits.{order}
 use Rattle.numbering.proofs.Counting.{row-ends, number-same}
@@ -45,7 +45,7 @@ pub columns-same : (top : ℕ) (m m′ : List ℕ) → ((k : ℕ) → k < top �
 columns-same zero m m′ h = refl
 columns-same (suc top) m m′ h = ap₂ _∷_ (h top (omega arith)) (columns-same top m m′ (λ k l. h k (omega arith)))
 
-columns-long : (top : ℕ) (m : List ℕ) → length (columnsOf m top) ≡ top
+pub columns-long : (top : ℕ) (m : List ℕ) → length (columnsOf m top) ≡ top
 columns-long zero m = refl
 columns-long (suc top) m = ap suc (columns-long top m)
 
@@ -142,9 +142,9 @@ stand-eq s t a b =
     ∙ ap₂ (λ (x : List ℕ) (y : ℕ → Qubits). record { untaken = t .untaken; columns = x; row = y }) (b .0) (b .1)
 
 -- Taking a column looks at the columns cleared and the rows left alone.
-pub take-same : (rows q : ℕ) (s t : Stand) → Same s t → Same (take rows q s) (take rows q t)
+pub take-same : (rows q : ℕ) (s t : Stand) → Same s t → Same (takeColumn rows q s) (takeColumn rows q t)
 take-same rows q s t e =
-    subst (λ (c : Option ℕ). Same (takeBy c q s) (take rows q t)) (sym (ap (λ (r : ℕ → Qubits). first rows (λ i. r i q)) (e .1))) (by (clearing rows q t))
+    subst (λ (c : Option ℕ). Same (takeBy c q s) (takeColumn rows q t)) (sym (ap (λ (r : ℕ → Qubits). first rows (λ i. r i q)) (e .1))) (by (clearing rows q t))
   where
     by : (c : Option ℕ) → Same (takeBy c q s) (takeBy c q t)
     by none = e
@@ -157,7 +157,7 @@ pub same-trans : (s t v : Stand) → Same s t → Same t v → Same s v
 same-trans s t v a b = (a .0 ∙ b .0, a .1 ∙ b .1)
 
 -- So does taking lost ones.
-pub take-if-same : (rows q : ℕ) (s t : Stand) (b : Bool) → Same s t → Same (cond b (take rows q s) s) (cond b (take rows q t) t)
+pub take-if-same : (rows q : ℕ) (s t : Stand) (b : Bool) → Same s t → Same (cond b (takeColumn rows q s) s) (cond b (takeColumn rows q t) t)
 take-if-same rows q s t true e = take-same rows q s t e
 take-if-same rows q s t false e = e
 
@@ -165,7 +165,7 @@ pub ascend-same : (rows : ℕ) (lost : Qubits) (q : ℕ) (s t : Stand) → Same 
 ascend-same rows lost zero s t e = e
 ascend-same rows lost (suc q) s t e = take-if-same rows q (ascend rows lost q s) (ascend rows lost q t) (lost q) (ascend-same rows lost q s t e)
 
-pub take-untaken : (rows q : ℕ) (s : Stand) → take rows q s .untaken ≡ without q (s .untaken)
+pub take-untaken : (rows q : ℕ) (s : Stand) → takeColumn rows q s .untaken ≡ without q (s .untaken)
 take-untaken rows q s = by (clearing rows q s)
   where
     by : (c : Option ℕ) → takeBy c q s .untaken ≡ without q (s .untaken)
@@ -204,7 +204,7 @@ takes-one w top rows q m m′ r wide few room s f =
     low k h = getD-set-other m′ (9216 + top) k q 0 (λ e. omega arith)
 
 module _ (n w rows top q : ℕ) (m m′ : List ℕ) (r : ℕ) (wide : n ≤ 64 * w) (small : q < n) where
-  pub takes-stand : Takes w top rows q m m′ r → Same (standOf n w rows r m′) (take rows q (standOf n w rows top m))
+  pub takes-stand : Takes w top rows q m m′ r → Same (standOf n w rows r m′) (takeColumn rows q (standOf n w rows top m))
   takes-stand (inl x) = rw (x .0, x .1, clearing-none n w rows top q m wide small (x .2)) (refl, refl)
   takes-stand (inr x) =
       let s = x .1 in

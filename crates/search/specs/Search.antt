@@ -6,7 +6,6 @@
 --   Clears     the answer says whether a row cleared the column
 --   rowOf      the row left at a place
 --   standOf    how the search stands, by the work list
---   Same       two stands but for the untaken columns
 --   Sound      the untaken columns are columns, and the number of each is how many rows left have it
 --   Knowns     the columns that are not lost are taken
 --   Losts      the lost columns up to q are taken; those that a row clears are marked
@@ -23,7 +22,7 @@ use Rattle.binary.specs.Words.{listed}
 use Rattle.packing.specs.Packed.{cell}
 use Rattle.columns.specs.Columns.{untaken, Numbered}
 use Rattle.numbering.specs.Numbering.{Stays, NumberedBut}
-use Rattle.search.specs.Route.{Stand, some?, former, clearing, take, steps, ascend}
+use Rattle.search.specs.Route.{Stand, some?, former, clearing, takeColumn, steps, ascend, Same}
 use Rattle.search.specs.Marked.{columnsOf}
 
 ----------------------------------------------------------------------
@@ -96,10 +95,6 @@ standOf n w rows top m = record { untaken = λ q. ltb q n && untaken m q; column
 abbrev pub Sound : ℕ → ℕ → ℕ → ℕ → List ℕ → Type 0
 Sound n w rows top m = ((c : ℕ) → c < 64 * w → untaken m c ≡ true → c < n) × Numbered w top rows m
 
--- The columns that a row cleared, and the rows left.
-abbrev pub Same : Stand → Stand → Type 0
-Same s t = (s .columns ≡ t .columns) × (s .row ≡ t .row)
-
 -- r is how many rows have cleared one.
 pub record Knowns (n w rows : ℕ) (m : List ℕ) (r : ℕ) (m′ : List ℕ) : Type 0 where
   pub long : length m′ ≡ length m
@@ -116,7 +111,7 @@ pub record LostTaken (n w rows : ℕ) (lost : List ℕ) (q top : ℕ) (m marks :
   pub low : top ≤ r
   pub within : r ≤ rows
   pub order : (k : ℕ) → k < top → getD m′ (9216 + k) 0 ≡ getD m (9216 + k) 0
-  pub stands : Same (standOf n w rows r m′) (cond (listed n lost q) (take rows q (standOf n w rows top m)) (standOf n w rows top m))
+  pub stands : Same (standOf n w rows r m′) (cond (listed n lost q) (takeColumn rows q (standOf n w rows top m)) (standOf n w rows top m))
   pub marked : getD marks′ q 0 ≡ cond (listed n lost q && some? (clearing rows q (standOf n w rows top m))) 1 (getD marks q 0)
   pub kept : (p : ℕ) → (p ≡ q → ⊥) → getD marks′ p 0 ≡ getD marks p 0
 

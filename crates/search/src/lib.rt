@@ -183,14 +183,14 @@ fn take_lost(
     top
 }
 
-// Whether sizes and lists fit for the search.
+// Whether sizes are in range and lists long enough for the search.
 fn long_enough(n: usize, rows: usize, lost: &[u8], work: &[u64], marks: &[u8]) -> bool
     ensures { λ r. ⌜ r ≡ enough n rows (now (lost .entry)) (now (work .entry)) (now (marks .entry)) ⌝ }
 {
     (n <= 1024) & (rows <= 512) & (10240 <= work.len()) & (n <= lost.len()) & (n <= marks.len())
 }
 
-// Marks the fixed qubits of the first `rows` rows of `n` columns that `work` holds. Nothing is written where sizes or lists do not fit.
+// Marks the fixed qubits of the first `rows` rows of `n` columns that `work` holds. Nothing is written where a size is out of range or a list too short.
 pub fn mark_fixed(n: u16, rows: usize, lost: &[u8], work: &mut [u64], marks: &mut [u8]) -> Search
     ensures { λ r. ⌜ Marked n rows (now (lost .entry)) (now (work .entry)) (now (marks .entry)) (now (work .exit)) (now (marks .exit)) r ⌝ }
 {

@@ -12,7 +12,7 @@ ghost use Rattle.cutting.specs.Room.{isFull};
 ghost use Rattle.shots.specs.Run.{HasRoom, BlockTaken, Ran};
 
 // What passes from block to block: the state, the counts, how many bytes are held at the front of the next one, and what is written.
-// last: the records are over. ended: the input is. over: nothing more is read. error: errno where the last read failed, and 0 else.
+// last: the records are over. ended: no more bytes come. over: nothing more is read. error: errno where the last read failed, and 0 else.
 pub struct Between {
     state: State,
     tally: Tally,
@@ -72,7 +72,7 @@ fn take_block(
 }
 
 // Block after block to the end: of the input, after refusal 1 or a record that is cut off, or at a write that failed. A proved loop has to
-// end, so the refills are counted down; each that does not end the run brings a byte, so more than 2^63 bytes use them up.
+// end, so the refills are counted down; each that does not end the run brings a byte, so that no input of up to 2^63 bytes uses them up.
 pub fn run(
     flat: &mut [u16],
     ends: &mut [u16],

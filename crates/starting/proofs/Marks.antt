@@ -3,7 +3,7 @@ use mathlib.Core.Path.{_≡_, refl, sym, ap, _∙_, fun-ext}
 use mathlib.Core.Bool.{Bool, true, false, cond}
 use mathlib.Core.Logic.{⊎-elim}
 use mathlib.Core.List.{List}
-use Prim.Native.Nat.{ℕ, _≤_, _<_}
+use Prim.Native.Nat.{ℕ, _+_, _≤_, _<_}
 use native.Mathlib.Omega.{arith}
 use lib.Dec.{eqb, ltb}
 use lib.ListN.{length, getD}
@@ -14,14 +14,16 @@ use Rattle.binary.proofs.Bits.{never, and-out}
 use Rattle.binary.proofs.Elimination.{fixed-lost}
 use Rattle.binary.proofs.WordBits.{order}
 use Rattle.search.specs.declared.Search.{Search}
-use Rattle.search.specs.Marked.{Marked, enough}
+use Rattle.search.specs.Route.{known, route}
+use Rattle.search.specs.Marked.{Marked, enough, columnsOf}
+use Rattle.search.proofs.Stands.{columns-long, columns-same}
 use Rattle.code.specs.Lists.{rowsFrom}
 use Rattle.code.specs.Tests.{Ascending}
 use Rattle.code.proofs.Order.{rows-below}
 use Rattle.machine.specs.Machine.{isOpen, startMark}
 use Rattle.machine.specs.Lists.{view}
 use Rattle.machine.proofs.Stages.{unfixed-open}
-use Rattle.starting.specs.Starting.{openMark}
+use Rattle.starting.specs.Starting.{openMark, Routed}
 use Rattle.packing.specs.PackedRows.{RowsPut}
 use Rattle.packing.proofs.PackedRows.{rows-count}
 
@@ -53,6 +55,14 @@ module _ (n : ℕ) (lost marks : List ℕ) where
     pub open-lost : isOpen (view n marks) ≡ listed n lost
     open-lost = ap isOpen open-marks ∙ unfixed-open (listed n lost)
 
+-- A list with the same elements from 9216 on has the same columns.
+pub routed-as : (n : ℕ) (rs : List Row) (lost : Qubits) (work work′ : List ℕ) → ((k : ℕ) → 9216 ≤ k → getD work′ k 0 ≡ getD work k 0) → Routed n rs lost work → Routed n rs lost work′
+routed-as n rs lost work work′ past v =
+    record {
+      knowns = columns-same (length (known n rs lost .columns)) work work′ (λ k h. past (9216 + k) (omega arith)) ∙ v .knowns;
+      all = columns-same (length (route n rs lost .columns)) work work′ (λ k h. past (9216 + k) (omega arith)) ∙ v .all;
+    }
+
 -- The fixed qubits marked where every lost qubit is open.
 module _ (n : ℕ) (flat ends lost : List ℕ) (other others : ℕ) (marks marks′ work work₁ work₂ : List ℕ) (r : Search)
     (packed : RowsPut n flat ends other others work work₁) (fixes : Marked n others lost work₁ marks work₂ marks′ r) where
@@ -72,3 +82,12 @@ module _ (n : ℕ) (flat ends lost : List ℕ) (other others : ℕ) (marks marks
       fixes .made ready .3 rs (rows-count flat ends other others) (packed .packed) (rows-below n rs good) .marked q l
       ∙ ap (cond (fixed? n rs (listed n lost) q) 1) (opened q l)
       ∙ start-mark (listed n lost q) (fixed? n rs (listed n lost) q) (fixed-lost n rs (listed n lost) (rows-below n rs good) q)
+
+  -- As many columns are noted as the route has.
+  pub columns-noted : enough n others lost work₁ marks ≡ true → All (Ascending n) rs → Routed n rs (listed n lost) work₂
+  columns-noted ready good =
+      let found = fixes .made ready .3 rs (rows-count flat ends other others) (packed .packed) (rows-below n rs good) in
+      record { knowns = as-many (fixes .made ready .0) (found .first); all = as-many (fixes .made ready .1) (found .taken) }
+    where
+      as-many : {columns : List ℕ} (k : ℕ) → columnsOf work₂ k ≡ columns → columnsOf work₂ (length columns) ≡ columns
+      as-many k e = ap (columnsOf work₂) (sym (ap length e) ∙ columns-long k work₂) ∙ e

@@ -29,11 +29,11 @@ use Rattle.filling.specs.Filling.{Fills}
 use Rattle.peeling.specs.Peeling as peeling
 use Rattle.peeling.specs.Peeling.{Peels, Ready}
 use Rattle.search.specs.declared.Search.{Search}
-use Rattle.search.specs.Marked.{Marked}
+use Rattle.search.specs.Marked.{enough, Marked}
 use Rattle.lists.specs.Filled.{Filled}
 use Rattle.packing.specs.PackedRows.{RowsPut}
-use Rattle.starting.specs.Starting.{openMark, Keeps, Saves, Restores, PeeledFirst, Searched, Begun, fits?, fitting, Starts, Opens, searchable?, Marks}
-use Rattle.starting.proofs.Marks.{listed-below, open-marks, open-lost, long-enough, fixed-marks}
+use Rattle.starting.specs.Starting.{openMark, Keeps, Saves, Restores, PeeledFirst, Searched, Begun, enough?, enoughIn?, Starts, Opens, searchable?, Marks}
+use Rattle.starting.proofs.Marks.{listed-below, open-marks, open-lost, long-enough, fixed-marks, columns-noted, routed-as}
 
 ----------------------------------------------------------------------
 -- Rows and checks
@@ -66,9 +66,9 @@ keeps-as n c work marks marks′ e k = record { kept = subst (λ (o : Qubits). K
 
 filled-keeps : (n : ℕ) (c : RowLists) (marks work work′ : List ℕ) → n ≤ 1024 → c .count ≤ 512 → c .first + c .count ≤ 1024 → c .first + c .count ≤ length (c .lit) → 9216 ≤ length work
     → Fills n c marks work work′ → GoodRows n c → Keeps n c work′ marks
-unfolding filling.fits?
+unfolding filling.enough?
 filled-keeps n c marks work work′ size few last lit words f good =
-    let t : filling.fits? n c (length work) ≡ true
+    let t : filling.enough? n c (length work) ≡ true
     = rw (le-leb n 1024 size, le-leb (c .count) 512 few, le-leb (c .first + c .count) 1024 last, le-leb 9216 (length work) words, le-leb (c .first + c .count) (length (c .lit)) lit) in
     record { kept = f .kept t good; on = f .rows t good }
 
@@ -132,9 +132,9 @@ module _ (n : ℕ) (c : RowLists) (lost work work₁ work₂ work₃ marks marks
   ready : GoodRows n c → Ready n (rowsIn (c .flat) (c .ends) (c .first) (c .count) (c .lit)) (record { marks = marks₁; work = work₂ })
   ready good = let k = keeps-below n c work₁ work₂ marks₁ size few (copied .stays) (keeps-then good) in record { good = good; kept = k .kept; on = k .on }
 
-  fits : peeling.fits? n (c .first) (c .count) (length marks₁) (length work₂) ≡ true
-  unfolding peeling.fits?
-  fits =
+  can-peel : peeling.enough? n (c .first) (c .count) (length marks₁) (length work₂) ≡ true
+  unfolding peeling.enough?
+  can-peel =
       let a = opened .long in
       let b = filled .long in
       let d = copied .long in
@@ -152,7 +152,7 @@ module _ (n : ℕ) (c : RowLists) (lost work work₁ work₂ work₃ marks marks
           first = again .first;
           rest = λ q h. again .rest q h ∙ peels .stays .rest q h ∙ opened .rest q h;
         };
-        told = λ good. peels .told fits (c .lit) (ready good) .answer ∙ ap (peelsAway (rowChecks c) n) (open-lost n lost marks₁ (opened .first));
+        told = λ good. peels .told can-peel (c .lit) (ready good) .answer ∙ ap (peelsAway (rowChecks c) n) (open-lost n lost marks₁ (opened .first));
         saved = λ good. record {
           work = work₁;
           keeps = keeps-as n c work₁ marks₁ marks₃ same-open (keeps-then good);
@@ -174,16 +174,18 @@ module _ (n : ℕ) (flat ends lost : List ℕ) (other others : ℕ) (work work�
         work-long = fixes .work-size ∙ packed .long;
         marks-long = fixes .size;
         rest = fixes .rest;
-        marked = λ opened good.
-            fixed-marks n flat ends lost other others marks marks′ work work₁ work₂ r packed fixes
-            (long-enough n flat ends lost other others marks marks′ work work₁ work₂ r packed fixes size many words long room) opened good;
+        marked = fixed-marks n flat ends lost other others marks marks′ work work₁ work₂ r packed fixes ready;
+        routed = columns-noted n flat ends lost other others marks marks′ work work₁ work₂ r packed fixes ready;
       }
+    where
+      ready : enough n others lost work₁ marks ≡ true
+      ready = long-enough n flat ends lost other others marks marks′ work work₁ work₂ r packed fixes size many words long room
 
 ----------------------------------------------------------------------
 -- The promise
 
 -- What the functions below ask.
-pub record Fitting (n lost lit first count other others work marks : ℕ) : Type 0 where
+pub record Enough (n lost lit first count other others work marks : ℕ) : Type 0 where
   pub size : n ≤ 1024
   pub few : count ≤ 512
   pub many : others ≤ 512
@@ -194,11 +196,11 @@ pub record Fitting (n lost lit first count other others work marks : ℕ) : Type
   pub lit-long : first + count ≤ lit
   pub marks-long : n ≤ marks
 
-pub fits-out : {n lost lit first count other others work marks : ℕ} → fits? n lost lit first count other others work marks ≡ true
-    → Fitting n lost lit first count other others work marks
-unfolding fits?
-fits-out {n} {lost} {lit} {first} {count} {other} {others} {work} {marks} fits =
-    let a = and-out _ (leb n marks) fits in
+pub enough-out : {n lost lit first count other others work marks : ℕ} → enough? n lost lit first count other others work marks ≡ true
+    → Enough n lost lit first count other others work marks
+unfolding enough?
+enough-out {n} {lost} {lit} {first} {count} {other} {others} {work} {marks} t =
+    let a = and-out _ (leb n marks) t in
     let b = and-out _ (leb (first + count) lit) (a .0) in
     let d = and-out _ (leb n lost) (b .0) in
     let f = and-out _ (leb 10240 work) (d .0) in
@@ -219,11 +221,11 @@ fits-out {n} {lost} {lit} {first} {count} {other} {others} {work} {marks} fits =
     }
 
 module _ (n : ℕ) (c : RowLists) (lost : List ℕ) (other others : ℕ) (work marks : List ℕ) where
-  pub starts-not : fitting n c lost other others work marks ≡ false → Starts n c lost other others work work marks marks
-  starts-not e = record { work-long = refl; marks-long = refl; rest = λ q h. refl; refused = λ u. (refl, refl); begun = λ u. never u e }
+  pub starts-not : enoughIn? n c lost other others work marks ≡ false → Starts n c lost other others work work marks marks
+  starts-not e = record { work-long = refl; marks-long = refl; rest = λ q h. refl; refused = λ u. (refl, refl); begun = λ u. never u e; routed = λ u. never u e }
 
   -- The search is made where every lost qubit is marked open.
-  pub starts-searched : fitting n c lost other others work marks ≡ true → (work₁ marks₁ work₂ marks₂ work₃ : List ℕ) → length work₁ ≡ length work
+  pub starts-searched : enoughIn? n c lost other others work marks ≡ true → (work₁ marks₁ work₂ marks₂ work₃ : List ℕ) → length work₁ ≡ length work
       → Filled (openMark n lost) n marks marks₁ → Searched n (c .flat) (c .ends) lost other others work₁ work₂ marks₁ marks₂ → Fills n c marks₂ work₂ work₃
       → Starts n c lost other others work work₃ marks marks₂
   starts-searched e work₁ marks₁ work₂ marks₂ work₃ long opened v filled =
@@ -233,16 +235,17 @@ module _ (n : ℕ) (c : RowLists) (lost : List ℕ) (other others : ℕ) (work m
         rest = λ q h. v .rest q h ∙ opened .rest q h;
         refused = λ u. never e u;
         begun = λ u good others-good even.
-            let f = fits-out e in
+            let f = enough-out e in
             record {
               marked = v .marked (opened .first) others-good;
               keeps =
                   let l = v .work-long in
                   filled-keeps n c marks₂ work₂ work₃ (f .size) (f .few) (let s = f .start in let m = f .few in omega arith) (f .lit-long) (let w = f .words in omega arith) filled good;
             };
+        routed = λ u good others-good left. routed-as n (rowsFrom (c .flat) (c .ends) other others) (listed n lost) work₂ work₃ (filled .past) (v .routed others-good);
       }
 
-  module _ (e : fitting n c lost other others work marks ≡ true) (work₁ marks₁ : List ℕ) (r : Bool) (first : PeeledFirst n c lost work work₁ marks marks₁ r) where
+  module _ (e : enoughIn? n c lost other others work marks ≡ true) (work₁ marks₁ : List ℕ) (r : Bool) (first : PeeledFirst n c lost work work₁ marks marks₁ r) where
     -- The lost qubits peel away, and what was kept of the rows is back in its place.
     pub starts-peeled : r ≡ true → (work₂ : List ℕ) → Restores (c .count) work₁ work₂ → Starts n c lost other others work work₂ marks marks₁
     starts-peeled away work₂ restored =
@@ -252,12 +255,13 @@ module _ (n : ℕ) (c : RowLists) (lost : List ℕ) (other others : ℕ) (work m
           rest = first .opened .rest;
           refused = λ u. never e u;
           begun = λ u good others-good even. begun good others-good even;
+          routed = λ u good others-good left. never (sym (first .told good) ∙ away) left;
         }
       where
         begun : GoodRows n c → All (Ascending n) (rowsFrom (c .flat) (c .ends) other others)
             → Commute (rowsFrom (c .flat) (c .ends) (c .first) (c .count)) (rowsFrom (c .flat) (c .ends) other others) → Begun n c lost other others work₂ marks₁
         begun good others-good even =
-            let f = fits-out e in
+            let f = enough-out e in
             let s = first .saved good in
             let leaves : peelsAway (rowChecks c) n (listed n lost) ≡ true = sym (first .told good) ∙ away in
             let none-fixed = unfixed n (rowsFrom (c .flat) (c .ends) other others) (listed n lost) (rowChecks c) (rows-below n (rowsFrom (c .flat) (c .ends) other others) others-good)
@@ -273,7 +277,7 @@ module _ (n : ℕ) (c : RowLists) (lost : List ℕ) (other others : ℕ) (work m
 
 module _ (n : ℕ) (lost marks : List ℕ) where
   pub opens-made : (n ≤ length lost) × (n ≤ length marks) → (marks′ : List ℕ) → Filled (openMark n lost) n marks marks′ → Opens n lost marks marks′
-  opens-made fit marks′ v = record { long = v .long; opened = λ e. v; refused = λ e. never (rw (le-leb n (length lost) (fit .0), le-leb n (length marks) (fit .1))) e }
+  opens-made long marks′ v = record { long = v .long; opened = λ e. v; refused = λ e. never (rw (le-leb n (length lost) (long .0), le-leb n (length marks) (long .1))) e }
 
   pub opens-not : (leb n (length lost) && leb n (length marks)) ≡ false → Opens n lost marks marks
   opens-not e = record { long = refl; opened = λ u. never u e; refused = λ u. refl }
@@ -283,7 +287,7 @@ module _ (n : ℕ) (flat ends lost : List ℕ) (other others : ℕ) (work marks 
   searching = searchable? n (length lost) other others (length work) (length marks)
 
   pub marks-not : searching ≡ false → Marks n flat ends lost other others work work marks marks
-  marks-not e = record { work-long = refl; marks-long = refl; rest = λ q h. refl; refused = λ u. (refl, refl); marked = λ u. never u e }
+  marks-not e = record { work-long = refl; marks-long = refl; rest = λ q h. refl; refused = λ u. (refl, refl); marked = λ u. never u e; routed = λ u. never u e }
 
   pub marks-searched : searching ≡ true → (work′ marks₁ marks′ : List ℕ) → Filled (openMark n lost) n marks marks₁ → Searched n flat ends lost other others work work′ marks₁ marks′
       → Marks n flat ends lost other others work work′ marks marks′
@@ -294,6 +298,7 @@ module _ (n : ℕ) (flat ends lost : List ℕ) (other others : ℕ) (work marks 
         rest = λ q h. v .rest q h ∙ opened .rest q h;
         refused = λ u. never e u;
         marked = λ u good. v .marked (opened .first) good;
+        routed = λ u good. v .routed good;
       }
 
 -- What the search asks.
@@ -307,8 +312,8 @@ pub record Searchable (n lost other others work marks : ℕ) : Type 0 where
 
 pub searchable-out : {n lost other others work marks : ℕ} → searchable? n lost other others work marks ≡ true → Searchable n lost other others work marks
 unfolding searchable?
-searchable-out {n} {lost} {other} {others} {work} {marks} fits =
-    let a = and-out _ (leb n marks) fits in
+searchable-out {n} {lost} {other} {others} {work} {marks} t =
+    let a = and-out _ (leb n marks) t in
     let b = and-out _ (leb n lost) (a .0) in
     let d = and-out _ (leb 10240 work) (b .0) in
     let e = and-out _ (leb other 512) (d .0) in

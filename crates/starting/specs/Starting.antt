@@ -4,8 +4,10 @@
 --   Keeps        what is kept of the half's own rows is right over the marks
 --   Saves        what is kept of the rows copied, and back: Restores
 --   PeeledFirst  whether the lost qubits peel away
---   Searched     the fixed qubits marked
+--   Routed       the work list has the columns that a row cleared, in the order of the search's route
+--   Searched     the fixed qubits marked, and the columns of the route noted
 --   Begun        the marks are the start's, and what is kept of the rows is right over them
+--   enough?      whether sizes are in range and lists long enough; enoughIn?: of the lists; searchable?: for the search alone
 --   Starts       the promise of `start`
 --   Opens        the promise of `open_marks`; Marks: of `mark_start`
 use mathlib.Core.Path.{_≡_}
@@ -14,9 +16,11 @@ use mathlib.Core.List.{List}
 use Prim.Native.Nat.{ℕ, _+_, _≤_, _<_}
 use lib.Dec.{leb}
 use lib.ListN.{length, getD}
-use Rattle.binary.specs.Meaning.{Qubits, All, Commute, fixed?}
+use Rattle.binary.specs.Meaning.{Qubits, Row, All, Commute, fixed?}
 use Rattle.binary.specs.Words.{listed}
 use Rattle.lists.specs.Filled.{Filled}
+use Rattle.search.specs.Route.{known, route}
+use Rattle.search.specs.Marked.{columnsOf}
 use Rattle.code.specs.Lists.{rowsFrom}
 use Rattle.code.specs.Tests.{Ascending}
 use Rattle.machine.specs.Machine.{isOpen, startMark}
@@ -71,6 +75,11 @@ pub record PeeledFirst (n : ℕ) (c : RowLists) (lost work work′ marks marks�
   pub told : GoodRows n c → r ≡ peelsAway (rowChecks c) n (listed n lost)
   pub saved : GoodRows n c → Saved n c marks′ work′
 
+-- Those that are not lost, and all, the latest first (document 02, request d).
+pub record Routed (n : ℕ) (rs : List Row) (lost : Qubits) (work : List ℕ) : Type 0 where
+  pub knowns : columnsOf work (length (known n rs lost .columns)) ≡ known n rs lost .columns
+  pub all : columnsOf work (length (route n rs lost .columns)) ≡ route n rs lost .columns
+
 -- From marks that have every lost qubit open.
 pub record Searched (n : ℕ) (flat ends lost : List ℕ) (other others : ℕ) (work work′ marks marks′ : List ℕ) : Type 0 where
   pub work-long : length work′ ≡ length work
@@ -78,6 +87,7 @@ pub record Searched (n : ℕ) (flat ends lost : List ℕ) (other others : ℕ) (
   pub rest : (q : ℕ) → n ≤ q → getD marks′ q 0 ≡ getD marks q 0
   pub marked : ((q : ℕ) → q < n → getD marks q 0 ≡ openMark n lost q) → All (Ascending n) (rowsFrom flat ends other others)
       → view n marks′ ≡ startMark (listed n lost) (fixedBy n flat ends lost other others)
+  pub routed : All (Ascending n) (rowsFrom flat ends other others) → Routed n (rowsFrom flat ends other others) (listed n lost) work′
 
 ----------------------------------------------------------------------
 -- The promise
@@ -86,21 +96,24 @@ pub record Begun (n : ℕ) (c : RowLists) (lost : List ℕ) (other others : ℕ)
   pub marked : view n marks ≡ startMark (listed n lost) (fixedIn n c lost other others)
   pub keeps : Keeps n c work marks
 
-unfoldable pub fits? : ℕ → ℕ → ℕ → ℕ → ℕ → ℕ → ℕ → ℕ → ℕ → Bool
-fits? n lost lit first count other others work marks =
+unfoldable pub enough? : ℕ → ℕ → ℕ → ℕ → ℕ → ℕ → ℕ → ℕ → ℕ → Bool
+enough? n lost lit first count other others work marks =
     leb n 1024 && leb count 512 && leb others 512 && leb first 512 && leb other 512 && leb 10240 work && leb n lost && leb (first + count) lit && leb n marks
 
-abbrev pub fitting : ℕ → RowLists → List ℕ → ℕ → ℕ → List ℕ → List ℕ → Bool
-fitting n c lost other others work marks = fits? n (length lost) (length (c .lit)) (c .first) (c .count) other others (length work) (length marks)
+abbrev pub enoughIn? : ℕ → RowLists → List ℕ → ℕ → ℕ → List ℕ → List ℕ → Bool
+enoughIn? n c lost other others work marks = enough? n (length lost) (length (c .lit)) (c .first) (c .count) other others (length work) (length marks)
 
--- Where sizes and lists fit, of rows that are strictly ascending and below n, and commute. Otherwise nothing is written.
+-- Where sizes are in range and lists long enough, of rows that are strictly ascending and below n, and commute. Where peeling leaves a qubit the search is made, and the work list
+-- has the columns of its route. Otherwise nothing is written.
 pub record Starts (n : ℕ) (c : RowLists) (lost : List ℕ) (other others : ℕ) (work work′ marks marks′ : List ℕ) : Type 0 where
   pub work-long : length work′ ≡ length work
   pub marks-long : length marks′ ≡ length marks
   pub rest : (q : ℕ) → n ≤ q → getD marks′ q 0 ≡ getD marks q 0
-  pub refused : fitting n c lost other others work marks ≡ false → (work′ ≡ work) × (marks′ ≡ marks)
-  pub begun : fitting n c lost other others work marks ≡ true → GoodRows n c → All (Ascending n) (rowsFrom (c .flat) (c .ends) other others)
+  pub refused : enoughIn? n c lost other others work marks ≡ false → (work′ ≡ work) × (marks′ ≡ marks)
+  pub begun : enoughIn? n c lost other others work marks ≡ true → GoodRows n c → All (Ascending n) (rowsFrom (c .flat) (c .ends) other others)
       → Commute (rowsFrom (c .flat) (c .ends) (c .first) (c .count)) (rowsFrom (c .flat) (c .ends) other others) → Begun n c lost other others work′ marks′
+  pub routed : enoughIn? n c lost other others work marks ≡ true → GoodRows n c → All (Ascending n) (rowsFrom (c .flat) (c .ends) other others)
+      → peelsAway (rowChecks c) n (listed n lost) ≡ false → Routed n (rowsFrom (c .flat) (c .ends) other others) (listed n lost) work′
 
 ----------------------------------------------------------------------
 -- The marks alone
@@ -115,7 +128,8 @@ pub record Opens (n : ℕ) (lost marks marks′ : List ℕ) : Type 0 where
 unfoldable pub searchable? : ℕ → ℕ → ℕ → ℕ → ℕ → ℕ → Bool
 searchable? n lost other others work marks = leb n 1024 && leb others 512 && leb other 512 && leb 10240 work && leb n lost && leb n marks
 
--- Where sizes and lists fit, the marks are the start's. Otherwise nothing is written.
+-- Where sizes are in range and lists long enough, the marks are the start's, and the work list has the columns of the route, of the other kind's rows. Otherwise nothing is
+-- written.
 pub record Marks (n : ℕ) (flat ends lost : List ℕ) (other others : ℕ) (work work′ marks marks′ : List ℕ) : Type 0 where
   pub work-long : length work′ ≡ length work
   pub marks-long : length marks′ ≡ length marks
@@ -123,3 +137,5 @@ pub record Marks (n : ℕ) (flat ends lost : List ℕ) (other others : ℕ) (wor
   pub refused : searchable? n (length lost) other others (length work) (length marks) ≡ false → (work′ ≡ work) × (marks′ ≡ marks)
   pub marked : searchable? n (length lost) other others (length work) (length marks) ≡ true → All (Ascending n) (rowsFrom flat ends other others)
       → view n marks′ ≡ startMark (listed n lost) (fixedBy n flat ends lost other others)
+  pub routed : searchable? n (length lost) other others (length work) (length marks) ≡ true → All (Ascending n) (rowsFrom flat ends other others)
+      → Routed n (rowsFrom flat ends other others) (listed n lost) work′

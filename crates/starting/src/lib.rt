@@ -4,7 +4,7 @@ ghost use mathlib.Core.Path.{_≡_};
 ghost use Prim.Native.Nat.{_+_, _≤_};
 ghost use lib.ListN.{length};
 ghost use Rattle.lists.specs.Filled.{Filled};
-ghost use Rattle.starting.specs.Starting.{openMark, Saves, Restores, PeeledFirst, Searched, fits?, Starts, Opens, searchable?, Marks};
+ghost use Rattle.starting.specs.Starting.{openMark, Saves, Restores, PeeledFirst, Searched, enough?, Starts, Opens, searchable?, Marks};
 use code::Rows;
 
 // Each lost qubit is marked open, each other one not lost.
@@ -85,7 +85,7 @@ fn search_fixed(
 }
 
 // Whether the sizes are document 01's and the lists long enough.
-fn fits(
+fn is_enough(
     n: u16,
     lost: &[u8],
     lit: &[u8],
@@ -94,7 +94,7 @@ fn fits(
     work: &[u64],
     marks: &[u8],
 ) -> bool
-    ensures { λ r. ⌜ r ≡ fits? n (length (now (lost .entry))) (length (now (lit .entry))) (own .first .0) (own .count) (others .first .0) (others .count) (length (now (work .entry))) (length (now (marks .entry))) ⌝ }
+    ensures { λ r. ⌜ r ≡ enough? n (length (now (lost .entry))) (length (now (lit .entry))) (own .first .0) (own .count) (others .first .0) (others .count) (length (now (work .entry))) (length (now (marks .entry))) ⌝ }
 {
     let size = n as usize;
     let first = own.first;
@@ -110,7 +110,7 @@ fn fits(
 }
 
 // The marks of the start: fixed qubits are settled, all other lost ones open. The work list has what is kept of the half's own rows. Nothing is written where
-// sizes or lists do not fit.
+// a size is out of range or a list too short.
 pub fn start(
     n: u16,
     flat: &[u16],
@@ -124,7 +124,7 @@ pub fn start(
 )
     ensures { λ _. ⌜ Starts n (record { flat = now (flat .entry); ends = now (ends .entry); lit = now (lit .entry); first = own .first .0; count = own .count }) (now (lost .entry)) (others .first .0) (others .count) (now (work .entry)) (now (work .exit)) (now (marks .entry)) (now (marks .exit)) ⌝ }
 {
-    if !fits(n, lost, lit, own, others, work, marks) {
+    if !is_enough(n, lost, lit, own, others, work, marks) {
         return;
     }
     if peel_first(n, flat, ends, lost, lit, own, work, marks) {
@@ -145,7 +145,7 @@ pub fn open_marks(n: u16, lost: &[u8], marks: &mut [u8])
     }
 }
 
-// Whether sizes and lists fit for the search.
+// Whether sizes are in range and lists long enough for the search.
 fn can_search(n: u16, lost: &[u8], others: Rows, work: &[u64], marks: &[u8]) -> bool
     ensures { λ r. ⌜ r ≡ searchable? n (length (now (lost .entry))) (others .first .0) (others .count) (length (now (work .entry))) (length (now (marks .entry))) ⌝ }
 {
@@ -155,7 +155,7 @@ fn can_search(n: u16, lost: &[u8], others: Rows, work: &[u64], marks: &[u8]) -> 
     small & (10240 <= work.len()) & (size <= lost.len()) & (size <= marks.len())
 }
 
-// The marks of the start by the search at once, for a half of which peeling is known to leave a qubit. Nothing is written where sizes or lists do not fit.
+// The marks of the start by the search at once, for a half of which peeling is known to leave a qubit. Nothing is written where a size is out of range or a list too short.
 pub fn mark_start(
     n: u16,
     flat: &[u16],

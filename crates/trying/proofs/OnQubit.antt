@@ -9,11 +9,10 @@ use lib.ListN.{length}
 use borrow.Author.Tests.{le-leb, lt-leb, leb-true}
 use Rattle.binary.specs.Meaning.{Qubits, Row, has}
 use Rattle.binary.proofs.Bits.{and-out}
-use Rattle.code.specs.Tests.{Ascending}
-use Rattle.code.proofs.Order.{Distinct, ascending-distinct}
+use Rattle.code.specs.Tests.{Ascending, Distinct}
+use Rattle.code.proofs.Order.{ascending-distinct}
 use Rattle.incidence.specs.Incidence.{slot, numberOn, rowsOn}
-use Rattle.scans.specs.Rows.{RowLists, GoodRows}
-use Rattle.scans.proofs.Checks.{here, was-read}
+use Rattle.scans.specs.Rows.{RowLists, checkIn, readIn?, GoodRows}
 use Rattle.kept.specs.Kept.{rowIn}
 use Rattle.kept.proofs.Same.{row-of}
 use Rattle.trying.specs.Entries.{entryOf, listed?}
@@ -37,17 +36,17 @@ module _ (n q : ℕ) (on : List ℕ) (c : RowLists) (g : OnQubit n q on c) where
   once h = subst Distinct (sym (g .rows-on)) (g .good .listed h q (g .small) (g .listed) .once)
 
   module _ (j : ℕ) (h : j < c .count) where
-    pub are : has on (c .first + j) ≡ has (here c j .row) q
+    pub are : has on (c .first + j) ≡ has (checkIn c j .row) q
     are = ap (λ (l : List ℕ). has l (c .first + j)) (g .rows-on) ∙ g .good .listed (omega arith) q (g .small) (g .listed) .are j h
 
     pub off-row : has on (c .first + j) ≡ false → has (rowIn c j) q ≡ false
-    off-row e = has-not (was-read c j) (here c j .row) q (sym are ∙ e)
+    off-row e = has-not (readIn? c j) (checkIn c j .row) q (sym are ∙ e)
 
-    pub own-ascending : Ascending n (here c j .row)
+    pub own-ascending : Ascending n (checkIn c j .row)
     own-ascending = row-of (Ascending n) (c .flat) (c .ends) (c .first) (c .count) j h (g .good .ascending)
 
-    pub own-distinct : Distinct (here c j .row)
-    own-distinct = ascending-distinct n (here c j .row) own-ascending
+    pub own-distinct : Distinct (checkIn c j .row)
+    own-distinct = ascending-distinct n (checkIn c j .row) own-ascending
 
 ----------------------------------------------------------------------
 -- The list found

@@ -9,8 +9,7 @@ use lib.ListN.{length, getD, set, drop, drop-of-length-le, length-set}
 use Rattle.binary.specs.Meaning.{Qubits, has}
 use Rattle.binary.proofs.Bits.{bit}
 use Rattle.machine.specs.Machine.{put, part}
-use Rattle.scans.specs.Rows.{RowLists, rowsIn, read?}
-use Rattle.scans.proofs.Checks.{here, was-read}
+use Rattle.scans.specs.Rows.{RowLists, rowsIn, checkIn, read?, readIn?}
 use Rattle.kept.specs.Kept.{rowIn, Numbered, Raised}
 use Rattle.kept.proofs.Raising.{one-more, open-few}
 use Rattle.filling.proofs.KeptQubits.{Own, Other, own-or-other, has-at}
@@ -83,10 +82,10 @@ module _ (n q : ℕ) (on : List ℕ) (c : RowLists) (o x : Qubits) (work₀ : Li
   module _ (r : ℕ) (rest work : List ℕ) (s : Walk q c o x (r ∷ rest) work) (on-it : has on r ≡ true) (work′ : List ℕ)
       (v : RowOpened q r (c .first) (c .count) (c .lit) work work′) where
     other : Other (c .first) (c .count) (c .lit) r → Walk q c o x rest work′
-    other f = rw (v .passes f) (walk-other (c .first) (c .count) before after Any Any r rest work s (λ j h e. (unread-same (was-read c j) (here c j .row) o x (put q true o) x (unread j h e), tt)))
+    other f = rw (v .passes f) (walk-other (c .first) (c .count) before after Any Any r rest work s (λ j h e. (unread-same (readIn? c j) (checkIn c j .row) o x (put q true o) x (unread j h e), tt)))
       where
-        unread : (j : ℕ) → j < c .count → r ≡ c .first + j → was-read c j ≡ false
-        unread j h e = bit (was-read c j) (λ t. absurd (f j (record { is = e; within = h; read = rw e t }))) (λ t. t)
+        unread : (j : ℕ) → j < c .count → r ≡ c .first + j → readIn? c j ≡ false
+        unread j h e = bit (readIn? c j) (λ t. absurd (f j (record { is = e; within = h; read = rw e t }))) (λ t. t)
 
     own : Own (c .first) (c .count) (c .lit) r → Walk q c o x rest work′
     own a =
@@ -102,26 +101,26 @@ module _ (n q : ℕ) (on : List ℕ) (c : RowLists) (o x : Qubits) (work₀ : Li
         h : i < c .count
         h = a .1 .within
 
-        row-is : rowIn c i ≡ here c i .row
-        row-is = let t : was-read c i ≡ true = subst (λ (y : ℕ). read? (c .lit) y ≡ true) is (a .1 .read) in rw t
+        row-is : rowIn c i ≡ checkIn c i .row
+        row-is = let t : readIn? c i ≡ true = subst (λ (y : ℕ). read? (c .lit) y ≡ true) is (a .1 .read) in rw t
 
-        has-it : has (here c i .row) q ≡ true
+        has-it : has (checkIn c i .row) q ≡ true
         has-it = sym (are n q on c (g .rows) i h) ∙ subst (λ (y : ℕ). has on y ≡ true) is on-it
 
-        now : entryIn work i ≡ entryOf o x (here c i .row)
+        now : entryIn work i ≡ entryOf o x (checkIn c i .row)
         now = walk-now (c .first) (c .count) before after Any Any r rest work s i is h few ∙ ap (entryOf o x) row-is
 
-        number : getD work (8704 + i) 0 ≡ length (part o (here c i .row))
+        number : getD work (8704 + i) 0 ≡ length (part o (checkIn c i .row))
         number = ap (λ (y : Entry). y .number) now
 
-        more : length (part (put q true o) (here c i .row)) ≡ 1 + length (part o (here c i .row))
-        more = let e = one-more o q (here c i .row) (own-distinct n q on c (g .rows) i h) (g .shut) has-it in omega arith
+        more : length (part (put q true o) (checkIn c i .row)) ≡ 1 + length (part o (checkIn c i .row))
+        more = let e = one-more o q (checkIn c i .row) (own-distinct n q on c (g .rows) i h) (g .shut) has-it in omega arith
 
-        bound : length (part (put q true o) (here c i .row)) ≤ n
-        bound = open-few n (put q true o) (here c i .row) (own-ascending n q on c (g .rows) i h)
+        bound : length (part (put q true o) (checkIn c i .row)) ≤ n
+        bound = open-few n (put q true o) (checkIn c i .row) (own-ascending n q on c (g .rows) i h)
 
         made : opened q (entryIn work i) ≡ after i
-        made = ap (opened q) now ∙ open-on o x q (here c i .row) (g .shut) (own-distinct n q on c (g .rows) i h) has-it ∙ ap (entryOf (put q true o) x) (sym row-is)
+        made = ap (opened q) now ∙ open-on o x q (checkIn c i .row) (g .shut) (own-distinct n q on c (g .rows) i h) has-it ∙ ap (entryOf (put q true o) x) (sym row-is)
 
     step : Walk q c o x rest work′
     step = ⊎-elim own other (own-or-other (c .first) (c .count) (c .lit) r)

@@ -10,7 +10,7 @@ use borrow.Author.Tests.{eqb-true, eqb-false, eq-eqb, ne-eqb}
 use Rattle.binary.specs.Bits.{_⊕_}
 use Rattle.binary.specs.Meaning.{Qubits, Row, has, odd}
 use Rattle.binary.proofs.Bits.{bit, never, ⊕-left-comm}
-use Rattle.code.proofs.Order.{Distinct}
+use Rattle.code.specs.Tests.{Distinct}
 use Rattle.machine.specs.Machine.{put}
 use Rattle.machine.specs.Lists.{digit, lit?}
 use Rattle.kept.proofs.Lowering.{not-has, one-less, summed-less}

@@ -16,6 +16,7 @@ use Rattle.machine.specs.Machine.{State, on, End, isOpen, dangling, noneOpen, b
 use Rattle.machine.specs.Report.{marked}
 use Rattle.machine.specs.Lists.{view}
 use Rattle.scans.specs.Rows.{RowLists, rowsIn, rowChecks, GoodRows}
+use Rattle.scans.specs.Scans.{OneLess}
 use Rattle.scans.proofs.Scanning.{some-open}
 use Rattle.turns.specs.Lists.{stateOf}
 use Rattle.turns.specs.Turns.{Working, Stays, turnBy, runFrom}
@@ -79,15 +80,15 @@ module _ (n : ℕ) (c : RowLists) (limit : ℕ) (old l : Working) (turns left : 
     stuck e = record { ready = v .ready; rest = v .same; spent = sym (ap (λ (y : End). y .word) (ends 0 Spent (rw (open-now, eqb-differ turns limit early, e)))) }
 
     -- A turn is made, and the rest of the run follows.
-    pub goes : turns ≤ limit → (l′ : Working) → PeeledAs n c l l′ → Running n c limit old l′ (turns + 1) (left - 1)
+    pub goes : turns ≤ limit → (l′ : Working) → OneLess n (l .marks) (l′ .marks) → PeeledAs n c l l′ → Running n c limit old l′ (turns + 1) (left - 1)
     unfolding runFrom turnBy
-    goes in-limit l′ z =
+    goes in-limit l′ less z =
         record {
           same = λ budget.
               ap₂ (λ (m k : ℕ). run (rowChecks c) n rule budget limit m (on (stateOf n (l′ .marks) (l′ .forms) 0 k))) steps (add-one turns)
               ∙ ap (run (rowChecks c) n rule budget limit (limit - turns)) (sym (z .comes turns))
               ∙ sym (run-goes (rowChecks c) n rule budget limit (limit - turns) st (rw (open-now, eqb-differ turns limit early, z .dangles))) ∙ v .same budget;
-          count = let a = v .count in let b = z .fewer in omega arith;
+          count = let a = v .count in omega (arith, less);
           fixed = λ q. z .fixed q ∙ v .fixed q;
           ready = z .ready;
         }
@@ -187,5 +188,5 @@ module _ (n : ℕ) (ends lit : List ℕ) (first count limit fixed number : ℕ) 
             marks = marks-then;
             within = let d = lt-of-le-of-ne (g .within) early in omega arith;
             so = λ flat good ready f e.
-                let v = g .so flat good ready f e in goes n (rows flat) limit old l turns left v more early (g .within) l′ (p .made i flat good (v .ready));
+                let v = g .so flat good ready f e in goes n (rows flat) limit old l turns left v more early (g .within) l′ (p .one i) (p .made i flat good (v .ready));
           }

@@ -14,8 +14,7 @@ use Rattle.binary.proofs.Bits.{bit, never}
 use Rattle.binary.proofs.WordBits.{order}
 use Rattle.machine.specs.Machine.{put, part, closed?}
 use Rattle.machine.specs.Lists.{digit, lit?}
-use Rattle.scans.specs.Rows.{RowLists, rowsIn}
-use Rattle.scans.proofs.Checks.{here, was-read}
+use Rattle.scans.specs.Rows.{RowLists, rowsIn, checkIn, readIn?}
 use Rattle.kept.specs.Kept.{rowIn, Tallied, Numbered, Retallied, Lowered}
 use Rattle.kept.proofs.Same.{tallied-same}
 use Rattle.kept.proofs.Lowering.{one-less}
@@ -118,7 +117,7 @@ pub record Given (n p value : ℕ) (on : List ℕ) (c : RowLists) (o x : Qubits)
 
 -- A row that this closed reads right.
 abbrev Right : ℕ → RowLists → Qubits → Qubits → ℕ → Type 0
-Right p c o x i = was-read c i ≡ true → has (here c i .row) p ≡ true → closed? o (here c i) ≡ true → odd x (here c i .row) ≡ here c i .lit
+Right p c o x i = readIn? c i ≡ true → has (checkIn c i .row) p ≡ true → closed? o (checkIn c i) ≡ true → odd x (checkIn c i .row) ≡ checkIn c i .lit
 
 abbrev Walk : ℕ → ℕ → RowLists → Qubits → Qubits → List ℕ → List ℕ → Type 0
 Walk p value c o x =
@@ -147,26 +146,26 @@ module _ (n p value : ℕ) (on : List ℕ) (c : RowLists) (o x : Qubits) (work�
       (w : RowSettled p value r (c .first) (c .count) (c .lit) work work′ true) where
     -- It is row i of the half.
     module _ (i : ℕ) (is : r ≡ c .first + i) (h : i < c .count) where
-      has-it : has (here c i .row) p ≡ true
+      has-it : has (checkIn c i .row) p ≡ true
       has-it = sym (are n p on c (g .rows) i h) ∙ subst (λ (y : ℕ). has on y ≡ true) is on-it
 
       now : entryIn work i ≡ before i
       now = walk-now (c .first) (c .count) before after (Right p c o′ x′) (Tallied (c .count)) r rest work s i is h few
 
-      less : was-read c i ≡ true → getD work (8704 + i) 0 ≡ 1 + length (part o′ (here c i .row))
+      less : readIn? c i ≡ true → getD work (8704 + i) 0 ≡ 1 + length (part o′ (checkIn c i .row))
       less t =
-          let e = one-less o p (here c i .row) (own-distinct n p on c (g .rows) i h) (g .was-open) has-it in
-          let row-is : rowIn c i ≡ here c i .row = rw t in
+          let e = one-less o p (checkIn c i .row) (own-distinct n p on c (g .rows) i h) (g .was-open) has-it in
+          let row-is : rowIn c i ≡ checkIn c i .row = rw t in
           let d = ap (λ (y : Entry). y .number) now ∙ ap (λ (y : Row). length (part o y)) row-is in
           omega (arith, d, e)
 
     other : Other (c .first) (c .count) work r → Walk p value c o x rest work′
     other f =
         rw (w .passes f) (walk-other (c .first) (c .count) before after (Right p c o′ x′) (Tallied (c .count)) r rest work s
-        (λ j h e. (unread-same (was-read c j) (here c j .row) o x o′ x′ (unread j h e), λ t. never t (unread j h e))))
+        (λ j h e. (unread-same (readIn? c j) (checkIn c j .row) o x o′ x′ (unread j h e), λ t. never t (unread j h e))))
       where
-        unread : (j : ℕ) → j < c .count → r ≡ c .first + j → was-read c j ≡ false
-        unread j h e = bit (was-read c j) (λ t. absurd (f j (record { is = e; within = h; some-open = omega (arith, less j e h t) }))) (λ t. t)
+        unread : (j : ℕ) → j < c .count → r ≡ c .first + j → readIn? c j ≡ false
+        unread j h e = bit (readIn? c j) (λ t. absurd (f j (record { is = e; within = h; some-open = omega (arith, less j e h t) }))) (λ t. t)
 
     own : Own (c .first) (c .count) work r → Walk p value c o x rest work′
     own a =
@@ -183,23 +182,23 @@ module _ (n p value : ℕ) (on : List ℕ) (c : RowLists) (o x : Qubits) (work�
         h = a .1 .within
 
         -- A row that was not read has no open qubit.
-        read : was-read c i ≡ true
-        read = bit (was-read c i) (λ t. t) (λ t. let z = ap (λ (y : Entry). y .number) (now i is h) in absurd (omega (arith, a .1 .some-open, rw t at z)))
+        read : readIn? c i ≡ true
+        read = bit (readIn? c i) (λ t. t) (λ t. let z = ap (λ (y : Entry). y .number) (now i is h) in absurd (omega (arith, a .1 .some-open, rw t at z)))
 
-        row-is : rowIn c i ≡ here c i .row
+        row-is : rowIn c i ≡ checkIn c i .row
         row-is = rw read
 
         made : settled p value (entryIn work i) ≡ after i
         made =
             ap (settled p value) (now i is h ∙ ap (entryOf o x) row-is)
-            ∙ settle-on o x p value (here c i .row) (let z = g .rows .small in let y = g .size in omega arith) (g .bit-value) (own-distinct n p on c (g .rows) i h) (g .was-open) (g .blank) (has-it i is h)
+            ∙ settle-on o x p value (checkIn c i .row) (let z = g .rows .small in let y = g .size in omega arith) (g .bit-value) (own-distinct n p on c (g .rows) i h) (g .was-open) (g .blank) (has-it i is h)
             ∙ ap (entryOf o′ x′) (sym row-is)
 
         right : Right p c o′ x′ i
         right t on-p shut =
             let d = made ∙ ap (entryOf o′ x′) row-is in
-            let none-left : settled p value (entryIn work i) .number ≡ 0 = ap (λ (y : Entry). y .number) d ∙ eqb-true (length (part o′ (here c i .row))) 0 (length-empty (part o′ (here c i .row)) ∙ shut) in
-            same-digit (odd x′ (here c i .row)) (here c i .lit)
+            let none-left : settled p value (entryIn work i) .number ≡ 0 = ap (λ (y : Entry). y .number) d ∙ eqb-true (length (part o′ (checkIn c i .row))) 0 (length-empty (part o′ (checkIn c i .row)) ∙ shut) in
+            same-digit (odd x′ (checkIn c i .row)) (checkIn c i .lit)
             (sym (ap (λ (y : Entry). y .parity) d) ∙ w .reads refl i (a .1) none-left ∙ ap (λ (y : ℕ). digit (lit? (getD (c .lit) y 0))) is)
 
     step : Walk p value c o x rest work′

@@ -9,7 +9,7 @@ use native.Mathlib.Omega.{arith}
 use lib.ListN.{length, getD}
 use borrow.Author.Tests.{eq-eqb, ne-eqb}
 use Rattle.binary.specs.Bits.{tally}
-use Rattle.binary.specs.Meaning.{Qubits, Row}
+use Rattle.binary.specs.Meaning.{Qubits, noQubit, Row}
 use Rattle.binary.proofs.Bits.{never, tally-few}
 use Rattle.binary.proofs.Rows.{odd-none}
 use Rattle.lists.specs.Cleared.{Cleared}
@@ -19,7 +19,7 @@ use Rattle.machine.specs.Lists.{view, digit}
 use Rattle.scans.specs.Rows.{RowLists, rowsIn, GoodRows}
 use Rattle.scans.proofs.Scanning.{open-past, open-read}
 use Rattle.kept.specs.Kept.{rowIn, Finds}
-use Rattle.filling.proofs.OpenBelow.{noQubit, part-none, openBelow, below-none, below-own, below-pass, below-put, below-all}
+use Rattle.filling.proofs.OpenBelow.{part-none, openBelow, below-none, below-own, below-pass, below-put, below-all}
 use Rattle.trying.specs.declared.Opened.the-variants.{Unlisted, Open}
 use Rattle.trying.specs.Entries.{entryIn, entryOf, total, HasEntries, Tracks, listed?, RowsOpened}
 use Rattle.trying.specs.Start.{RowsCleared, AllOpened, MarkedOpened}

@@ -9,7 +9,7 @@ use native.Mathlib.Omega.{arith}
 use lib.Dec.{eqb, ltb, leb}
 use lib.ListN.{length, getD}
 use borrow.Author.Tests.{leb-true, lt-ltb, le-ltb}
-use Rattle.binary.specs.Meaning.{Qubits}
+use Rattle.binary.specs.Meaning.{Qubits, noQubit}
 use Rattle.binary.proofs.Bits.{never, and-out}
 use Rattle.binary.proofs.WordBits.{order}
 use Rattle.lists.specs.Cleared.{Cleared}
@@ -18,7 +18,6 @@ use Rattle.machine.specs.Machine.{Form, on, isOpen, blank, stage, freest, run}
 use Rattle.machine.specs.Lists.{view, formsOf}
 use Rattle.scans.specs.Rows.{RowLists, rowsIn, rowChecks, GoodRows}
 use Rattle.kept.specs.Kept.{Finds}
-use Rattle.filling.proofs.OpenBelow.{noQubit}
 use Rattle.closing.specs.Closing.{LitClosed}
 use Rattle.turns.specs.Turns.{Working, Stays, runFrom}
 use Rattle.turns.specs.Runs.{endOf}
@@ -31,7 +30,7 @@ use Rattle.trying.specs.declared.TryAnswer.the-variants.{Unknown, Left}
 use Rattle.trying.specs.Entries.{Tracks}
 use Rattle.trying.specs.Start.{RowsCleared, AllOpened, MarkedOpened}
 use Rattle.trying.specs.Turns.{valuesOf, Ready, reopened, Reaches, RunTries}
-use Rattle.trying.specs.Trying.{Given, fits?, Tried, Tries}
+use Rattle.trying.specs.Trying.{Given, enough?, Tried, Tries}
 use Rattle.trying.proofs.Starting.{dangling-found}
 use Rattle.trying.proofs.Peeling.{kept-of}
 use Rattle.trying.proofs.Running.{unknown-reaches}
@@ -105,10 +104,10 @@ module _ (n : ℕ) (ends lit : List ℕ) (first count limit fixed : ℕ) (old : 
         }
 
 ----------------------------------------------------------------------
--- Sizes and lengths that fit, and the promise
+-- Sizes in range and lists long enough, and the promise
 
 -- What the functions below ask.
-pub record Fitting (n lit first count work marks forms : ℕ) : Type 0 where
+pub record Enough (n lit first count work marks forms : ℕ) : Type 0 where
   pub size : n ≤ 1024
   pub few : count ≤ 512
   pub last : first + count ≤ 1024
@@ -118,9 +117,9 @@ pub record Fitting (n lit first count work marks forms : ℕ) : Type 0 where
   pub in-forms : 4 * n ≤ forms
 
 module _ (n lit first count work marks forms : ℕ) where
-  pub fits-out : fits? n lit first count work marks forms ≡ true → Fitting n lit first count work marks forms
-  unfolding fits?
-  fits-out t =
+  pub enough-out : enough? n lit first count work marks forms ≡ true → Enough n lit first count work marks forms
+  unfolding enough?
+  enough-out t =
       let a = and-out _ (leb (4 * n) forms) t in
       let b = and-out _ (leb n marks) (a .0) in
       let e = and-out _ (leb (first + count) lit) (b .0) in
@@ -138,8 +137,8 @@ module _ (n lit first count work marks forms : ℕ) where
       }
 
 module _ (n : ℕ) (ends lit : List ℕ) (first count limit fixed : ℕ) (old : Working) where
-  abbrev fitting : Bool
-  fitting = fits? n (length lit) first count (length (old .work)) (length (old .marks)) (length (old .forms))
+  abbrev enoughHere : Bool
+  enoughHere = enough? n (length lit) first count (length (old .work)) (length (old .marks)) (length (old .forms))
 
   -- Whatever the lists hold.
   nothing-told : (new : Working) (flat : List ℕ) → let c = rowsIn flat ends first count lit in Reaches n c limit new Unknown (λ budget. endOf n c budget limit old)
@@ -157,9 +156,9 @@ module _ (n : ℕ) (ends lit : List ℕ) (first count limit fixed : ℕ) (old : 
     tells = λ flat good given. nothing-told old flat;
   }
 
-  module _ (fits : fitting ≡ true) where
+  module _ (enough : enoughHere ≡ true) where
     pub tries-told : (new : Working) (r : TryAnswer) → (r ≡ Unknown → ⊥) → Tried n ends lit first count limit fixed old new r → Tries n ends lit first count limit fixed old new r
-    tries-told new r known v = record { stays = v .stays; refused = λ i. never fits i; unknown = λ i f. absurd (known i); within = v .within; tells = v .tells }
+    tries-told new r known v = record { stays = v .stays; refused = λ i. never enough i; unknown = λ i f. absurd (known i); within = v .within; tells = v .tells }
 
     -- Where nothing is known, peeled qubits are open again.
     pub tries-unknown : (mid : Working) (r : TryAnswer) → Tried n ends lit first count limit fixed old mid r → (marks′ : List ℕ) → Filled (λ q. reopened (getD (mid .marks) q 0)) n (mid .marks) marks′
@@ -168,7 +167,7 @@ module _ (n : ℕ) (ends lit : List ℕ) (first count limit fixed : ℕ) (old : 
         record {
           stays = stays-on n old mid (record { marks = marks′; forms = mid .forms; work = mid .work }) (v .stays)
               (record { marks-long = again .long; forms-long = refl; work-long = refl; marks-rest = again .rest; forms-rest = λ i h. refl });
-          refused = λ i. never fits i;
+          refused = λ i. never enough i;
           unknown = λ i f. fun-ext λ q. ⊎-elim (λ (h : q < n). rw (lt-ltb q n h) (again .first q h ∙ v .marks q ∙ as-was q h (f q))) (λ (h : n ≤ q). rw (le-ltb q n h)) (order q n);
           within = never-left;
           tells = λ flat good given. nothing-told (record { marks = marks′; forms = mid .forms; work = mid .work }) flat;

@@ -11,7 +11,7 @@ use lib.Seq.{drop-cons}
 use borrow.Author.Tests.{eqb-true, eqb-false, eq-eqb, ne-eqb}
 use Rattle.binary.specs.Meaning.{has}
 use Rattle.binary.proofs.Bits.{bit}
-use Rattle.code.proofs.Order.{Distinct}
+use Rattle.code.specs.Tests.{Distinct}
 use Rattle.trying.specs.Entries.{Entry, entryIn, EntryPut}
 
 pub drop-here : (l : List ℕ) (k : ℕ) → k < length l → drop k l ≡ getD l k 0 ∷ drop (k + 1) l

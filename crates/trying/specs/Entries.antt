@@ -15,14 +15,13 @@ use mathlib.Core.List.{List}
 use Prim.Native.Nat.{ℕ, _+_, _-_, _%_, _≤_, _<_}
 use lib.Dec.{eqb, leb}
 use lib.ListN.{length, getD}
+use Rattle.binary.specs.Bits.{summed}
 use Rattle.binary.specs.Meaning.{Qubits, Row, has, odd}
 use Rattle.incidence.specs.Incidence.{slot, numberOn, rowsOn}
 use Rattle.machine.specs.Machine.{part, put, closed?}
 use Rattle.machine.specs.Lists.{digit, lit?}
-use Rattle.scans.specs.Rows.{RowLists, rowsIn, GoodRows}
-use Rattle.scans.proofs.Checks.{here, was-read}
+use Rattle.scans.specs.Rows.{RowLists, rowsIn, checkIn, readIn?, GoodRows}
 use Rattle.kept.specs.Kept.{rowIn, Tallied, Retallied}
-use Rattle.kept.proofs.Lowering.{summed}
 use Rattle.filling.specs.Filling.{ReadAs}
 
 ----------------------------------------------------------------------
@@ -100,7 +99,7 @@ pub record RowSettled (p v r first count : ℕ) (lit old new : List ℕ) (told :
 
 -- Each row on qubit p that was read and has no open qubit fires exactly if it is lit.
 abbrev pub ReadRight : ℕ → Qubits → Qubits → RowLists → Type 0
-ReadRight p o x c = (i : ℕ) → i < c .count → was-read c i ≡ true → has (here c i .row) p ≡ true → closed? o (here c i) ≡ true → odd x (here c i .row) ≡ here c i .lit
+ReadRight p o x c = (i : ℕ) → i < c .count → readIn? c i ≡ true → has (checkIn c i .row) p ≡ true → closed? o (checkIn c i) ≡ true → odd x (checkIn c i .row) ≡ checkIn c i .lit
 
 -- The qubits o were open before, and had no value.
 abbrev pub Settles : ℕ → ℕ → RowLists → List ℕ → List ℕ → Type 0

@@ -5,11 +5,11 @@ use mathlib.Core.Path.{_≡_}
 use mathlib.Core.List.{List}
 use Prim.Native.Nat.{ℕ}
 use lib.ListN.{length}
+use Rattle.binary.specs.Meaning.{noQubit}
 use Rattle.machine.specs.Machine.{isOpen}
 use Rattle.machine.specs.Report.{marked}
 use Rattle.machine.specs.Lists.{view}
 use Rattle.scans.specs.Rows.{RowLists, rowsIn, GoodRows}
-use Rattle.filling.proofs.OpenBelow.{noQubit}
 use Rattle.trying.specs.declared.Opened.{Opened}
 use Rattle.trying.specs.declared.Opened.the-variants.{Open}
 use Rattle.trying.specs.Entries.{HasEntries}

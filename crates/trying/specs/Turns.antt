@@ -4,7 +4,7 @@
 --   ValuePut      a qubit's form becomes a plain bit
 --   QubitSettled  an open qubit is settled with a value
 --   reopened      a mark, that of a peeled qubit open again; isFixed: a mark is that of a fixed one
---   Peels         a turn of the machine, or that no row dangles
+--   Peels         a turn of the machine, or that no row dangles, told by the number of dangling rows
 --   Stuck         the turns led where no row dangles
 --   Reaches       what an answer tells of the half
 --   RunTries      the turns up to there
@@ -12,10 +12,11 @@ use mathlib.Core.Path.{_≡_}
 use mathlib.Core.Bool.{Bool, true, false, _&&_, cond}
 use mathlib.Core.Option.{none}
 use mathlib.Core.List.{List}
-use Prim.Native.Nat.{ℕ, suc, _*_, _≤_}
+use Prim.Native.Nat.{ℕ, suc, _*_, _≤_, _<_}
 use lib.Dec.{eqb}
 use lib.ListN.{length, getD, set}
 use Rattle.binary.specs.Meaning.{Qubits}
+use Rattle.bitsets.specs.Bitsets.{inSet}
 use Rattle.machine.specs.declared.Word.the-variants.{Certain, Spent}
 use Rattle.machine.specs.declared.HalfReport.{HalfReport}
 use Rattle.machine.specs.Machine.{End, on, isOpen, put, dangling, some?}
@@ -23,6 +24,7 @@ use Rattle.machine.specs.Report.{marked}
 use Rattle.machine.specs.Lists.{view, formsOf}
 use Rattle.forms.specs.Forms.{Topped}
 use Rattle.scans.specs.Rows.{RowLists, rowsIn, rowChecks, GoodRows}
+use Rattle.scans.specs.Scans.{OneLess}
 use Rattle.turns.specs.Lists.{stateOf}
 use Rattle.turns.specs.Turns.{Working, Stays, isGuessed, turnBy, runFrom}
 use Rattle.turns.specs.Runs.{Ran, restOf}
@@ -70,12 +72,16 @@ isFixed n marks q = eqb (view n marks q) 1
 pub record PeeledAs (n : ℕ) (c : RowLists) (old new : Working) : Type 0 where
   pub dangles : some? (dangling (isOpen (view n (old .marks))) (rowChecks c)) ≡ true
   pub comes : (turns : ℕ) → turnBy n c (stateOf n (old .marks) (old .forms) 0 turns) ≡ on (stateOf n (new .marks) (new .forms) 0 (suc turns))
-  pub fewer : marked n (view n (old .marks)) 4 ≡ suc (marked n (view n (new .marks)) 4)
   pub fixed : (q : ℕ) → isFixed n (new .marks) q ≡ isFixed n (old .marks) q
   pub ready : Ready n c new
 
+-- Whatever the lists hold: a turn settles one open qubit, and where no row dangles nothing is written. That none dangles is answered from the total that is kept, where it
+-- is 0, and otherwise only where the set of dangling rows is empty.
 pub record Peels (n : ℕ) (ends lit : List ℕ) (first count : ℕ) (old new : Working) (r : Peel) : Type 0 where
   pub stays : Stays n old new
+  pub by-total : getD (old .work) 8200 0 ≡ 0 → r ≡ NoRow
+  pub by-set : r ≡ NoRow → (getD (old .work) 8200 0 ≡ 0 → ⊥) → (j : ℕ) → j < count → inSet (old .work) 1024 j ≡ false
+  pub one : r ≡ Made → OneLess n (old .marks) (new .marks)
   pub marks : (q : ℕ) → reopened (getD (new .marks) q 0) ≡ reopened (getD (old .marks) q 0)
   pub idle : r ≡ NoRow → new ≡ old
   pub no-row : r ≡ NoRow → (flat : List ℕ) → let c = rowsIn flat ends first count lit in GoodRows n c → Ready n c old

@@ -3,7 +3,7 @@
 ghost use mathlib.Core.Path.{_≡_};
 ghost use Prim.Native.Nat.{_+_, _*_, _≤_};
 ghost use lib.ListN.{length};
-ghost use Rattle.trying.specs.Trying.{fits?, Tried, Tries};
+ghost use Rattle.trying.specs.Trying.{enough?, Tried, Tries};
 
 mod entries;
 mod peels;
@@ -33,8 +33,8 @@ enum Peel {
 }
 
 // Whether the sizes are document 01's and the lists long enough.
-fn fits(n: u16, lit: &[u8], rows: Rows, work: &[u64], marks: &[u8], forms: &[u64]) -> bool
-    ensures { λ r. ⌜ r ≡ fits? n (length (now (lit .entry))) (rows .first .0) (rows .count) (length (now (work .entry))) (length (now (marks .entry))) (length (now (forms .entry))) ⌝ }
+fn is_enough(n: u16, lit: &[u8], rows: Rows, work: &[u64], marks: &[u8], forms: &[u64]) -> bool
+    ensures { λ r. ⌜ r ≡ enough? n (length (now (lit .entry))) (rows .first .0) (rows .count) (length (now (work .entry))) (length (now (marks .entry))) (length (now (forms .entry))) ⌝ }
 {
     let size = n as usize;
     let first = rows.first;
@@ -44,7 +44,7 @@ fn fits(n: u16, lit: &[u8], rows: Rows, work: &[u64], marks: &[u8], forms: &[u64
     long & (size <= marks.len()) & (4 * size <= forms.len())
 }
 
-// A try where sizes and lists fit: the start, then the turns.
+// A try where sizes are in range and lists long enough: the start, then the turns.
 fn tried(
     n: u16,
     ends: &[u16],
@@ -87,7 +87,7 @@ pub fn try_turns(
 ) -> TryAnswer
     ensures { λ r. ⌜ Tries n (now (ends .entry)) (now (lit .entry)) (rows .first .0) (rows .count) limit fixed (record { marks = now (marks .entry); forms = now (forms .entry); work = now (work .entry) }) (record { marks = now (marks .exit); forms = now (forms .exit); work = now (work .exit) }) r ⌝ }
 {
-    if !fits(n, lit, rows, work, marks, forms) {
+    if !is_enough(n, lit, rows, work, marks, forms) {
         return TryAnswer::Unknown;
     }
     let told = tried(n, ends, lit, rows, limit, fixed, work, marks, forms);

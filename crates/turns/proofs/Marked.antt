@@ -27,7 +27,7 @@ use Rattle.turns.specs.declared.RunAnswer.the-variants.{Refused, Over}
 use Rattle.turns.specs.declared.Ended.{Ended}
 use Rattle.turns.specs.Lists.{stateOf}
 use Rattle.turns.specs.Turns.{Working, Stays, Ready, EndedAs, runFrom, RunEnds}
-use Rattle.turns.specs.Runs.{stageIn, Begins, endOf, Midway, restOf, TurnedHalf, reportBy, RanHalf, fits?, fitting, Answers}
+use Rattle.turns.specs.Runs.{stageIn, Begins, endOf, Midway, restOf, TurnedHalf, reportBy, RanHalf, enough?, enoughIn?, Answers}
 use Rattle.turns.proofs.Stays.{stays-same, stays-on}
 use Rattle.turns.proofs.Running.{run-failed}
 
@@ -131,10 +131,10 @@ ran-half n c asked end old new e r v told =
     }
 
 ----------------------------------------------------------------------
--- Sizes and lengths that fit, and the promise
+-- Sizes in range and lists long enough, and the promise
 
 -- What the functions below ask.
-pub record Fitting (n : ℕ) (c : RowLists) (l : Working) : Type 0 where
+pub record Enough (n : ℕ) (c : RowLists) (l : Working) : Type 0 where
   pub size : n ≤ 1024
   pub marks : n ≤ length (l .marks)
   pub forms : 4 * n ≤ length (l .forms)
@@ -143,9 +143,9 @@ pub record Fitting (n : ℕ) (c : RowLists) (l : Working) : Type 0 where
   pub lit : c .first + c .count ≤ length (c .lit)
   pub last : c .first + c .count ≤ 1024
 
-pub fits-out : (n : ℕ) (c : RowLists) (l : Working) → fitting n c l ≡ true → Fitting n c l
-unfolding fits?
-fits-out n c l t =
+pub enough-out : (n : ℕ) (c : RowLists) (l : Working) → enoughIn? n c l ≡ true → Enough n c l
+unfolding enough?
+enough-out n c l t =
     let b = and-out _ (leb (4 * n) (length (l .forms))) t in
     let d = and-out _ (leb n (length (l .marks))) (b .0) in
     let e = and-out _ (leb (c .first + c .count) (length (c .lit))) (d .0) in
@@ -164,11 +164,11 @@ fits-out n c l t =
       last = omega arith;
     }
 
-pub does-fit : (fit told : Bool) → told ≡ fit → not told ≡ false → fit ≡ true
-does-fit fit told tells e = cases fit (λ y. y) (λ y. never (ap not (tells ∙ y)) e)
+pub enough-told : (enough told : Bool) → told ≡ enough → not told ≡ false → enough ≡ true
+enough-told enough told tells e = cases enough (λ y. y) (λ y. never (ap not (tells ∙ y)) e)
 
-module _ (n : ℕ) (c : RowLists) (fit : Bool) (asked : Type 0) (end : End) (old : Working) (told : Bool) (tells : told ≡ fit) where
-  pub answers-refused : not told ≡ true → Answers n c fit asked end old old Refused
+module _ (n : ℕ) (c : RowLists) (enough : Bool) (asked : Type 0) (end : End) (old : Working) (told : Bool) (tells : told ≡ enough) where
+  pub answers-refused : not told ≡ true → Answers n c enough asked end old old Refused
   answers-refused e =
       record {
         stays = stays-same n old;
@@ -176,5 +176,5 @@ module _ (n : ℕ) (c : RowLists) (fit : Bool) (asked : Type 0) (end : End) (old
         over = λ i. never i (sym tells ∙ not-out told e);
       }
 
-  pub answers-over : not told ≡ false → (new : Working) (r : HalfReport) → RanHalf n c asked end old new r → Answers n c fit asked end old new (Over r)
-  answers-over e new r v = record { stays = v .stays; refused = λ i. never (does-fit fit told tells e) i; over = λ i. (r, refl, v .ran) }
+  pub answers-over : not told ≡ false → (new : Working) (r : HalfReport) → RanHalf n c asked end old new r → Answers n c enough asked end old new (Over r)
+  answers-over e new r v = record { stays = v .stays; refused = λ i. never (enough-told enough told tells e) i; over = λ i. (r, refl, v .ran) }

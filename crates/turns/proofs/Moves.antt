@@ -22,9 +22,8 @@ use Rattle.machine.specs.Words.{finished}
 use Rattle.machine.specs.Machine.{isOpen, dangling, best}
 use Rattle.machine.specs.Lists.{view}
 use Rattle.machine.proofs.Guessing.{best-rule}
-use Rattle.scans.specs.Rows.{RowLists, rowChecks, GoodRows}
+use Rattle.scans.specs.Rows.{RowLists, checkIn, rowChecks, GoodRows}
 use Rattle.scans.specs.Scans.{OpenFrom}
-use Rattle.scans.proofs.Checks.{here}
 use Rattle.scans.proofs.Scanning.{open-below}
 use Rattle.kept.specs.Kept.{dangles?, Lowest}
 use Rattle.kept.proofs.Same.{kept-same, rows-same}
@@ -101,13 +100,14 @@ module _ (n : ℕ) (c : RowLists) (live : ℕ) (weighed : Bool) (old : Working) 
 
   module _ (x : Choice) (a : x ≡ choiceOf (best (lighter work′) n (isOpen (view n (old .marks))))) where
     pub guessed-none : x ≡ NoQubit → Guessed n c live weighed old mid Spent
-    guessed-none b = record { stays = stays-mid; guesses = λ good ready some-open none-dangles. choice-some n work′ (old .marks) x a b some-open }
+    guessed-none b = record { stays = stays-mid; one = (refl, refl); guesses = λ good ready some-open none-dangles. choice-some n work′ (old .marks) x a b some-open }
 
     pub guessed-made : (p : Qubit) → x ≡ Named p → (new : Working) (t : Taken) → Turned n c live true (guessBy n c (p .0)) mid new t → Guessed n c live weighed old new (Made t true)
     unfolding turnBy guessBy
     guessed-made p b new t v =
         record {
           stays = stays-on n old mid new stays-mid (v .stays);
+          one = v .one;
           guesses = λ good ready some-open none-dangles.
               let r = mid-ready good ready in
               let j = sym (weighed-rule n c (isOpen (view n (old .marks))) work′ few (r .weights refl)) ∙ named (best (lighter work′) n (isOpen (view n (old .marks)))) refl in
@@ -131,8 +131,8 @@ module _ (n : ℕ) (c : RowLists) (budget live : ℕ) (weighed : Bool) (old new 
   known : Ready n c live weighed old → (r < c .count → dangles? now-open c r ≡ true) × ((j : ℕ) → j < r → dangles? now-open c j ≡ false)
   known ready = low .lowest long now-open c refl (ready .kept)
 
-  module _ (h : r < c .count) (row : List ℕ) (is : row ≡ here c r .row) (i : ℕ) (first : OpenFrom now-open row 0 i) where
-    at : OpenFrom now-open (here c r .row) 0 i
+  module _ (h : r < c .count) (row : List ℕ) (is : row ≡ checkIn c r .row) (i : ℕ) (first : OpenFrom now-open row 0 i) where
+    at : OpenFrom now-open (checkIn c r .row) 0 i
     at = subst (λ (x : List ℕ). OpenFrom now-open x 0 i) is first
 
     -- A dangling row has an open qubit.
@@ -140,6 +140,8 @@ module _ (n : ℕ) (c : RowLists) (budget live : ℕ) (weighed : Bool) (old new 
     moved-shut l =
         record {
           stays = stays-same n old;
+          one = (refl, refl);
+          by-total = λ z s. refl;
           moves = λ good ready some-open less.
               let k = known ready in let m = found-inside now-open c r h (k .0 h) (k .1) i at in let e = ap length is in absurd (omega arith);
         }
@@ -149,9 +151,11 @@ module _ (n : ℕ) (c : RowLists) (budget live : ℕ) (weighed : Bool) (old new 
     moved-peel p e t v =
         record {
           stays = v .stays;
+          one = v .one;
+          by-total = λ z s. let d = low .by-total z in absurd (omega arith);
           moves = λ good ready some-open less.
               let k = known ready in
-              let d : dangling now-open (rowChecks c) ≡ some (p, here c r) = dangling-found now-open c r h (k .0 h) (k .1) i at ∙ ap (λ (q : ℕ). some (q, here c r)) (ap (λ (x : List ℕ). getD x i 0) (sym is) ∙ sym e) in
+              let d : dangling now-open (rowChecks c) ≡ some (p, checkIn c r) = dangling-found now-open c r h (k .0 h) (k .1) i at ∙ ap (λ (q : ℕ). some (q, checkIn c r)) (ap (λ (x : List ℕ). getD x i 0) (sym is) ∙ sym e) in
               let w = v .turns good ready in
               (rw d, record { comes = λ turns. rw d (w .comes turns); ready = w .ready });
         }
@@ -164,11 +168,13 @@ module _ (n : ℕ) (c : RowLists) (budget live : ℕ) (weighed : Bool) (old new 
     moved-spent l =
         record {
           stays = stays-same n old;
+          one = (refl, refl);
+          by-total = λ z s. refl;
           moves = λ good ready some-open less. let e : live ≡ budget = omega arith in (refl, rw (no-row ready) (subst (λ (k : ℕ). eqb live k ≡ true) e (eq-eqb live)));
         }
 
     pub moved-guess : live < budget → (m : Move) → Guessed n c live weighed old new m → Moved n c budget live weighed old new m
-    moved-guess l m v = record { stays = v .stays; moves = λ good ready some-open less. go good ready some-open m v }
+    moved-guess l m v = record { stays = v .stays; one = v .one; by-total = λ z s. absurd (omega arith); moves = λ good ready some-open less. go good ready some-open m v }
       where
         go : GoodRows n c → Ready n c live weighed old → below n (λ q. not (now-open q)) ≡ false → (m : Move) → Guessed n c live weighed old new m → MovedBy n c budget live old new m
         go good ready some-open Spent v = absurd (v .guesses good ready some-open (no-row ready))

@@ -18,18 +18,16 @@ use Rattle.turns.specs.declared.Move.{Move}
 use Rattle.turns.specs.declared.Move.the-variants.{Spent, Made}
 use Rattle.turns.specs.declared.Ended.{Ended}
 use Rattle.machine.specs.Words.{finished}
-use Rattle.machine.specs.Machine.{State, Stage, on, failed, End, isOpen, noneOpen, before, fewer, freest, turn, run}
+use Rattle.machine.specs.Machine.{State, Stage, on, failed, End, isOpen, noneOpen, before, freest, turn, run}
 use Rattle.machine.specs.Report.{marked}
 use Rattle.machine.specs.Lists.{view}
 use Rattle.turns.specs.Lists.{stateOf}
 use Rattle.scans.specs.Rows.{RowLists, rowChecks, GoodRows}
-use Rattle.scans.proofs.Scanning.{open-below, some-open}
+use Rattle.scans.proofs.Scanning.{some-open}
 use Rattle.guessing.specs.Guessing.{Weighed}
-use Rattle.turns.specs.Turns.{Working, Stays, isGuessed, Ready, StageAs, Turns, turnBy, spent?, MovedBy, Moved, EndedAs, runFrom, RunEnds}
+use Rattle.turns.specs.Turns.{Working, Stays, isGuessed, Ready, StageAs, Turns, turnBy, spent?, SettlesOne, MovedBy, Moved, EndedAs, runFrom, RunEnds}
 use Rattle.machine.proofs.Runs.{Unsaid}
-use Rattle.machine.proofs.Guessing.{best-rule}
 use Rattle.machine.proofs.Budgets.{FewAt, few-turn}
-use Rattle.machine.proofs.Counts.{OpenAt, open-turn}
 use Rattle.turns.proofs.Stays.{stays-same, stays-on}
 
 ----------------------------------------------------------------------
@@ -170,21 +168,15 @@ module _ (n : ℕ) (c : RowLists) (budget limit made : ℕ) (old : Working) (beg
                 look (on st′) i w =
                     let e′ : st′ .forms .live ≡ now = cc in
                     let here : stateOf n (l′ .marks) (l′ .forms) now (turns + 1) ≡ st′ = ap₂ (stateOf n (l′ .marks) (l′ .forms)) (sym e′) (add-one turns) ∙ w .1 in
-                    let opened = subst (OpenAt n (turns + left)) i (open-turn (rowChecks c) n rule (best-rule (fewer (rowChecks c)) n) (turns + left) st (ap (turns +_) (sym (v .count)), open-below n (l .marks))) in
-                    let marks = ap (λ (s : State). marked n (s .mark) 4) here in
-                    let one-more = ap (λ (s : State). s .turns) here in
                     record {
                       same = ap₂ (run (rowChecks c) n rule budget limit) (steps in-limit) (ap on here ∙ sym i) ∙ goes;
-                      count = counted (st′ .turns) (marked n (st′ .mark) 4) (marked n (view n (l′ .marks)) 4) (opened .0) one-more marks;
+                      count = let less = subst (SettlesOne n l l′) is-made (moved .one) in let y = v .count in omega (arith, less);
                       ready = z .1 .ready now e;
                       few = subst (λ (k : ℕ). k ≤ budget) e′ (subst (FewAt budget) i (few-turn (rowChecks c) n rule budget limit st (v .few) unsaid));
                     }
                   where
                     steps : turns ≤ limit → suc (limit - (turns + 1)) ≡ limit - turns
                     steps w′ = let d = lt-of-le-of-ne w′ early in omega arith
-
-                    counted : (a b d : ℕ) → a + b ≡ turns + left → turns + 1 ≡ a → d ≡ b → left - 1 ≡ d
-                    counted a b d x y u = omega arith
 
           pub goes-failed : t ≡ Failed → RunEnds n c budget limit made begun old l′ (record { word = None; turns = turns + 1; live = 0 })
           goes-failed e = record { stays = stays; ends = λ good ready few. failed-end good (g .so good ready few) e }

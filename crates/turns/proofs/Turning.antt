@@ -21,7 +21,7 @@ use Rattle.turns.specs.Lists.{stateOf}
 use Rattle.forms.specs.Sides.{check}
 use Rattle.forms.proofs.Putting.{side-put, side-rest, guess-put, guess-rest}
 use Rattle.scans.specs.Rows.{RowLists, rowChecks, GoodRows}
-use Rattle.scans.proofs.Scanning.{open-below, view-set, rest-set}
+use Rattle.scans.proofs.Scanning.{open-below, view-set, rest-set, one-less}
 use Rattle.kept.specs.Kept.{Kept, RowsOn}
 use Rattle.kept.proofs.Same.{kept-same, rows-same}
 use Rattle.guessing.specs.Guessing.{Weighed, WeightsAlone, Renews}
@@ -109,6 +109,7 @@ module _ (n : ℕ) (c : RowLists) (old : Working) (forms′ work₁ work′ : Li
           marks-rest = rest-set n (old .marks) p m below;
           forms-rest = v .forms-rest;
         };
+        one = one-less n (old .marks) p m is-open not-four;
         turns = λ good ready plain before. turns-of good (v .rows good o is-open (ready .kept) (ready .on) (ready .topped)) ready plain before;
       }
     where
@@ -193,6 +194,7 @@ module _ (n : ℕ) (c : RowLists) (p live : ℕ) (old new : Working) (forms₁ :
   peel-turned r weighed row e puts v =
       record {
         stays = stays-put n old new forms₁ (puts .long) (side-rest n live p (check (eqb (getD (c .lit) r 0) 1) row) (old .forms) forms₁ puts below room) (v .stays);
+        one = v .one;
         turns = λ good ready.
             let was : formsOf n forms₁ ≡ put p (sideOf (rowAt (c .flat) (c .ends) r)) (formsOf n (old .forms))
             = side-put n live p (check (eqb (getD (c .lit) r 0) 1) row) (old .forms) forms₁ puts below room (ready .topped) ∙ ap (λ (x : Row). put p (sideOf x) (formsOf n (old .forms))) e in
@@ -210,6 +212,7 @@ module _ (n : ℕ) (c : RowLists) (p live : ℕ) (old new : Working) (forms₁ :
   guess-turned newest e l puts v =
       record {
         stays = stays-put n old new forms₁ (puts .long) (guess-rest n newest p (old .forms) forms₁ puts below room (omega arith)) (v .stays);
+        one = v .one;
         turns = λ good ready.
             let was = guess-put n newest p (old .forms) forms₁ puts below room (omega arith) (λ q k i. ready .topped q k (omega arith)) in
             let w = v .turns good (mid-ready n c p old forms₁ (λ k. eqb k newest) was live newest true (omega arith) (λ k i. eqb-differ k newest (λ u. absurd (omega arith))) ready) (λ u. never refl u) live in

@@ -6,7 +6,7 @@
 --   TurnedHalf  the turns: how the half ended
 --   reportBy    the report of a half, counted from its marks
 --   Ran         the report and the lists are those of an end
---   fits?       whether sizes and lists are such that the turns are made
+--   enough?     whether sizes are in range and lists long enough for the turns; enoughIn?: of the lists
 --   Answers     the turns are made, or nothing is written
 --   Runs        the promise of `run_turns`; GoesOn: of `go_on`
 use mathlib.Core.Path.{_≡_}
@@ -77,24 +77,24 @@ pub record RanHalf (n : ℕ) (c : RowLists) (asked : Type 0) (e : End) (old new 
   pub ran : asked → Ran n c new r e
 
 -- Of the lengths of the lists.
-unfoldable pub fits? : ℕ → ℕ → ℕ → ℕ → ℕ → ℕ → ℕ → Bool
-fits? n lit first count work marks forms =
+unfoldable pub enough? : ℕ → ℕ → ℕ → ℕ → ℕ → ℕ → ℕ → Bool
+enough? n lit first count work marks forms =
     leb n 1024 && leb count 512 && leb first 512 && leb 10240 work && leb (first + count) lit && leb n marks && leb (4 * n) forms
 
-abbrev pub fitting : ℕ → RowLists → Working → Bool
-fitting n c l = fits? n (length (c .lit)) (c .first) (c .count) (length (l .work)) (length (l .marks)) (length (l .forms))
+abbrev pub enoughIn? : ℕ → RowLists → Working → Bool
+enoughIn? n c l = enough? n (length (c .lit)) (c .first) (c .count) (length (l .work)) (length (l .marks)) (length (l .forms))
 
--- For every input lists keep their lengths, marks what is past n and forms what is past 4 × n. Where it is told to fit, the turns are made: where what is asked
+-- For every input lists keep their lengths, marks what is past n and forms what is past 4 × n. Where it is told to be enough, the turns are made: where what is asked
 -- holds, as the machine makes them to this end. Otherwise nothing is written.
-pub record Answers (n : ℕ) (c : RowLists) (fit : Bool) (asked : Type 0) (e : End) (old new : Working) (r : RunAnswer) : Type 0 where
+pub record Answers (n : ℕ) (c : RowLists) (enough : Bool) (asked : Type 0) (e : End) (old new : Working) (r : RunAnswer) : Type 0 where
   pub stays : Stays n old new
-  pub refused : fit ≡ false → (r ≡ Refused) × (new ≡ old)
-  pub over : fit ≡ true → (h : HalfReport) × (r ≡ Over h) × (asked → Ran n c new h e)
+  pub refused : enough ≡ false → (r ≡ Refused) × (new ≡ old)
+  pub over : enough ≡ true → (h : HalfReport) × (r ≡ Over h) × (asked → Ran n c new h e)
 
--- Where sizes and lists fit: of rows that are strictly ascending and below n, and of what is kept of them.
+-- Where sizes are in range and lists long enough: of rows that are strictly ascending and below n, and of what is kept of them.
 abbrev pub Runs : ℕ → RowLists → ℕ → ℕ → Working → Working → RunAnswer → Type 0
-Runs n c budget limit old new r = Answers n c (fitting n c old) (Begins n c old) (endOf n c budget limit old) old new r
+Runs n c budget limit old new r = Answers n c (enoughIn? n c old) (Begins n c old) (endOf n c budget limit old) old new r
 
 -- And no more turns were made than the limit says.
 abbrev pub GoesOn : ℕ → RowLists → ℕ → ℕ → ℕ → Working → Working → RunAnswer → Type 0
-GoesOn n c budget limit made old new r = Answers n c (fitting n c old && leb made limit) (Midway n c old) (restOf n c budget limit made old) old new r
+GoesOn n c budget limit made old new r = Answers n c (enoughIn? n c old && leb made limit) (Midway n c old) (restOf n c budget limit made old) old new r

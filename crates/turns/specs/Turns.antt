@@ -3,9 +3,10 @@
 --   Ready       the forms have no bit above the live guesses, and what is kept of the rows is so; of the weights, from the first guess on
 --   StageAs     the lists and the answer are a stage of the machine
 --   Turns       of lists that are ready, the stage that a turn leads to, with lists that are ready again
---   Turned      the same, and elements past n as they were, whatever the lists hold
+--   Turned      the same, and whatever the lists hold elements past n as they were, and one open qubit less
 --   WeighedOnce the weights counted, unless they are kept
---   Guessed     a guess; Moved: a turn, or that the budget is spent
+--   SettlesOne  a turn settles one open qubit
+--   Guessed     a guess; Moved: a turn, or that the budget is spent; that no row dangles is told by the number of dangling rows
 --   KeptOver    what is kept is a fresh count over the marks
 --   EndedAs     the lists and the answer are the end of a half
 use mathlib.Core.Path.{_≡_}
@@ -20,6 +21,7 @@ use Rattle.binary.specs.Meaning.{Qubits}
 use Rattle.forms.specs.declared.Taken.{Taken}
 use Rattle.forms.specs.declared.Taken.the-variants.{Failed, Live}
 use Rattle.scans.specs.Rows.{RowLists, rowsIn, checkAt, rowChecks, GoodRows}
+use Rattle.scans.specs.Scans.{OneLess}
 use Rattle.kept.specs.Kept.{Kept, RowsOn}
 use Rattle.turns.specs.declared.Move.{Move}
 use Rattle.turns.specs.declared.Move.the-variants.{Spent, Made}
@@ -70,6 +72,7 @@ pub record Turns (n : ℕ) (c : RowLists) (live : ℕ) (weighed : Bool) (next : 
 
 pub record Turned (n : ℕ) (c : RowLists) (live : ℕ) (weighed : Bool) (next : State → Stage) (old new : Working) (t : Taken) : Type 0 where
   pub stays : Stays n old new
+  pub one : OneLess n (old .marks) (new .marks)
   pub turns : GoodRows n c → Ready n c live weighed old → Turns n c live weighed next old new t
 
 -- Qubit p, which has its form, gets mark m.
@@ -79,6 +82,7 @@ settleBy n c p m live st = settle (rowChecks c) st p m (record { form = st .form
 -- So many guesses were live before, and are now. A guess needs the weights.
 pub record Settled (n : ℕ) (c : RowLists) (p m live : ℕ) (weighed : Bool) (old new : Working) (t : Taken) : Type 0 where
   pub stays : Stays n old new
+  pub one : OneLess n (old .marks) (new .marks)
   pub turns : GoodRows n c → Ready n c live weighed old → (weighed ≡ false → eqb m 3 ≡ false)
       → (before : ℕ) → Turns n c before weighed (settleBy n c p m live) old new t
 
@@ -108,6 +112,11 @@ pub record WeighedOnce (n : ℕ) (flat ends : List ℕ) (first count : ℕ) (wei
   pub weights : (lit : List ℕ) → let c = rowsIn flat ends first count lit in GoodRows n c
       → (o : Qubits) → ((q : ℕ) → o q ≡ true → q < n) → Kept o c work → (weighed ≡ true → Weighed o c work) → Weighed o c work′
 
+-- A turn settles one open qubit, whatever the lists hold. Where none is made, marks and forms stay.
+abbrev pub SettlesOne : ℕ → Working → Working → Move → Type 0
+SettlesOne n old new Spent = (new .marks ≡ old .marks) × (new .forms ≡ old .forms)
+SettlesOne n old new (Made t weighed) = OneLess n (old .marks) (new .marks)
+
 -- No row dangles, and the budget is not spent. With the turn made it is told whether the weights are kept now.
 abbrev pub GuessedBy : ℕ → RowLists → ℕ → Working → Working → Move → Type 0
 GuessedBy n c live old new Spent = ⊥
@@ -115,6 +124,7 @@ GuessedBy n c live old new (Made t weighed) = Turns n c live weighed (turnBy n c
 
 pub record Guessed (n : ℕ) (c : RowLists) (live : ℕ) (weighed : Bool) (old new : Working) (m : Move) : Type 0 where
   pub stays : Stays n old new
+  pub one : SettlesOne n old new m
   pub guesses : GoodRows n c → Ready n c live weighed old → someOpen n (old .marks) → dangling (isOpen (view n (old .marks))) (rowChecks c) ≡ none
       → GuessedBy n c live old new m
 
@@ -122,8 +132,11 @@ abbrev pub MovedBy : ℕ → RowLists → ℕ → ℕ → Working → Working �
 MovedBy n c budget live old new Spent = (new ≡ old) × (spent? n c budget live (old .marks) ≡ true)
 MovedBy n c budget live old new (Made t weighed) = (spent? n c budget live (old .marks) ≡ false) × Turns n c live weighed (turnBy n c) old new t
 
+-- That no row dangles is answered from the total that is kept: where it is 0, whatever the other elements hold.
 pub record Moved (n : ℕ) (c : RowLists) (budget live : ℕ) (weighed : Bool) (old new : Working) (m : Move) : Type 0 where
   pub stays : Stays n old new
+  pub one : SettlesOne n old new m
+  pub by-total : getD (old .work) 8200 0 ≡ 0 → budget ≤ live → m ≡ Spent
   pub moves : GoodRows n c → Ready n c live weighed old → someOpen n (old .marks) → live ≤ budget → MovedBy n c budget live old new m
 
 ----------------------------------------------------------------------

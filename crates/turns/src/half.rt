@@ -68,7 +68,7 @@ fn report(n: u16, ended: Ended, marks: &[u8]) -> HalfReport
     }
 }
 
-// The turns of a half whose sizes and lists fit, and its report.
+// The turns of a half whose sizes are in range and lists long enough, and its report.
 pub fn run_marked(
     n: u16,
     flat: &[u16],
@@ -88,7 +88,7 @@ pub fn run_marked(
     report(n, ended, marks)
 }
 
-// The rest of a half after so many turns, none of them a guess, whose sizes and lists fit, and its report.
+// The rest of a half after so many turns, none of them a guess, whose sizes are in range and lists long enough, and its report.
 pub fn go_on_marked(
     n: u16,
     flat: &[u16],

@@ -1,7 +1,7 @@
 // The turns of a half, from the marks of its start, or from where turns without a guess led.
 ghost use mathlib.Core.Path.{_≡_};
 ghost use lib.ListN.{length};
-ghost use Rattle.turns.specs.Runs.{fits?, Runs, GoesOn};
+ghost use Rattle.turns.specs.Runs.{enough?, Runs, GoesOn};
 
 mod half;
 mod turns;
@@ -31,8 +31,8 @@ struct Ended {
 }
 
 // Whether the sizes are document 01's and the lists long enough.
-fn fits(n: u16, lit: &[u8], rows: Rows, work: &[u64], marks: &[u8], forms: &[u64]) -> bool
-    ensures { λ r. ⌜ r ≡ fits? n (length (now (lit .entry))) (rows .first .0) (rows .count) (length (now (work .entry))) (length (now (marks .entry))) (length (now (forms .entry))) ⌝ }
+fn is_enough(n: u16, lit: &[u8], rows: Rows, work: &[u64], marks: &[u8], forms: &[u64]) -> bool
+    ensures { λ r. ⌜ r ≡ enough? n (length (now (lit .entry))) (rows .first .0) (rows .count) (length (now (work .entry))) (length (now (marks .entry))) (length (now (forms .entry))) ⌝ }
 {
     let size = n as usize;
     let first = rows.first;
@@ -58,14 +58,14 @@ pub fn run_turns(
 ) -> RunAnswer
     ensures { λ r. ⌜ Runs n (record { flat = now (flat .entry); ends = now (ends .entry); lit = now (lit .entry); first = rows .first .0; count = rows .count }) budget limit (record { marks = now (marks .entry); forms = now (forms .entry); work = now (work .entry) }) (record { marks = now (marks .exit); forms = now (forms .exit); work = now (work .exit) }) r ⌝ }
 {
-    if !fits(n, lit, rows, work, marks, forms) {
+    if !is_enough(n, lit, rows, work, marks, forms) {
         return RunAnswer::Refused;
     }
     RunAnswer::Over(half::run_marked(n, flat, ends, lit, rows, budget, limit, work, marks, forms))
 }
 
-// The rest of a half after so many turns, none of them a guess: from its marks and forms, and what is kept of the rows over them. Nothing is written where sizes or
-// lists do not fit, or the limit is below these turns.
+// The rest of a half after so many turns, none of them a guess: from its marks and forms, and what is kept of the rows over them. Nothing is written where a size is
+// out of range or a list too short, or the limit is below these turns.
 pub fn go_on(
     n: u16,
     flat: &[u16],
@@ -81,7 +81,7 @@ pub fn go_on(
 ) -> RunAnswer
     ensures { λ r. ⌜ GoesOn n (record { flat = now (flat .entry); ends = now (ends .entry); lit = now (lit .entry); first = rows .first .0; count = rows .count }) budget limit made (record { marks = now (marks .entry); forms = now (forms .entry); work = now (work .entry) }) (record { marks = now (marks .exit); forms = now (forms .exit); work = now (work .exit) }) r ⌝ }
 {
-    if !(fits(n, lit, rows, work, marks, forms) & (made <= limit)) {
+    if !(is_enough(n, lit, rows, work, marks, forms) & (made <= limit)) {
         return RunAnswer::Refused;
     }
     RunAnswer::Over(half::go_on_marked(

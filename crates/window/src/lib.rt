@@ -8,12 +8,12 @@ ghost use lib.ListN.{length};
 ghost use Rattle.window_meaning.specs.Read.{windowAnswer};
 ghost use Rattle.window.specs.Entering.{HalfIn, Enters};
 use machine::HalfReport;
-use window_meaning::Counts;
 use records::Report;
 use records::State;
+use rules::word_number;
+use window_meaning::Counts;
 use window_meaning::WindowAnswer;
 use window_meaning::WindowRefusal;
-use rules::word_number;
 
 // Whether the list is below its least length.
 fn is_short(window: &[u16]) -> bool

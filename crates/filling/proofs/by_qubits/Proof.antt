@@ -5,7 +5,7 @@ use Prim.Native.Nat.{_-_, _≤_}
 use native.Mathlib.Omega.{arith}
 use borrow.Author.Needs.{needs}
 use borrow.Author.Tests.{not-false}
-use Rattle.filling.proofs.KeptQubits.{qubits-not, Reached, reached-none, reached-shut, reached-open, reached-all}
+use Rattle.filling.proofs.KeptQubits.{qubits-not, Reached, reached-none, reached-shut, reached-open, reached-past, reached-all}
 use Rattle.filling.proofs.by_qubits.Statement.{statement}
 use Rattle.filling.proofs.by_qubits.Tie as tie
 
@@ -16,7 +16,7 @@ abbrev μ-loop : tie.MeasureT-loop
 μ-loop n ends lit rows marks work₀ q₀ work q = n - q
 
 returns : tie.Need-returns Inv-loop μ-loop
-returns c = qubits-not _ _ _ _ _ _ _ _ refl
+returns c = qubits-not _ _ _ _ _ _ _ _ refl (λ k h. refl)
 
 cast-clear-words : tie.Need-cast-clear-words Inv-loop μ-loop
 cast-clear-words c = search needs
@@ -43,7 +43,7 @@ same-length : tie.Need-same-length Inv-loop μ-loop
 same-length c = c .before .before .before .keep-qubit .ensures .long ∙ c .before .before .before .before .before .before .before .before .loop .inv .1 .long ∙ c .before .before .before .before .before .before .before .before .before .before .before .clear-words .ensures .long
 
 returns-2 : tie.Need-returns-2 Inv-loop μ-loop
-returns-2 c = qubits-not _ _ _ _ _ _ _ _ (c .before .before .before .keep-qubit .ensures .long ∙ c .before .before .before .before .before .before .before .before .loop .inv .1 .long ∙ c .before .before .before .before .before .before .before .before .before .before .before .clear-words .ensures .long)
+returns-2 c = qubits-not _ _ _ _ _ _ _ _ (c .before .before .before .keep-qubit .ensures .long ∙ c .before .before .before .before .before .before .before .before .loop .inv .1 .long ∙ c .before .before .before .before .before .before .before .before .before .before .before .clear-words .ensures .long) (λ k h. c .before .before .before .keep-qubit .ensures .past (omega (arith, c .before .before .before .before .before .before .before .before .before .before .before .before .before .before .before .before .before .before .before .pre .0, c .before .before .before .before .before .before .before .loop-test .taken)) k h ∙ reached-past _ _ _ _ _ _ _ (c .before .before .before .before .before .before .before .before .before .before .before .before .before .before .before .before .before .before .before .pre .0) (c .before .before .before .before .before .before .before .before .before .before .before .before .before .before .before .before .before .before .before .pre .1) _ _ (c .before .before .before .before .before .before .before .before .loop .inv .1) _ (c .before .before .before .before .before .before .before .before .before .before .before .clear-words .ensures) k h)
 
 add-q : tie.Need-add-q Inv-loop μ-loop
 add-q c = search needs
@@ -72,7 +72,7 @@ same-length-2 c = c .before .before .find-dangling .ensures .long ∙ c .before 
 returns-3 : tie.Need-returns-3 Inv-loop μ-loop
 returns-3 c =
     let start = c .before .before .before .before .before .before .before .before .before .before .before .before .before .before .before .before in
-    reached-all _ _ _ _ _ _ _ (start .pre .0) (start .pre .1) _ _ (c .before .before .before .before .before .loop .inv .1) (omega (arith, c .before .before .before .before .loop-test .left)) _ _ (start .pre .2) (c .before .before .before .before .before .before .before .before .clear-words .ensures .long) (c .before .before .find-dangling .ensures)
+    reached-all _ _ _ _ _ _ _ (start .pre .0) (start .pre .1) _ _ (c .before .before .before .before .before .loop .inv .1) (omega (arith, c .before .before .before .before .loop-test .left)) _ _ (start .pre .2) (c .before .before .before .before .before .before .before .before .clear-words .ensures) (c .before .before .find-dangling .ensures)
 
 pub by-qubits-spec : {M : Type 1} → statement M
 by-qubits-spec =

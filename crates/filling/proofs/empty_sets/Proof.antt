@@ -44,7 +44,7 @@ loop-less c = search needs
 loop-again : tie.Need-loop-again Inv-loop μ-loop
 loop-again c = (
   search needs,
-  ⊎-elim (λ x. rw (x .5) (emptying-open _ _ _ _ _ (c .before .before .before .loop .inv .1) _ (x .2 .ensures)))
+  ⊎-elim (λ x. rw (x .5) (emptying-open _ _ _ _ _ (c .before .before .before .loop .inv .1) (omega arith) _ (x .2 .ensures)))
       (λ x. rw (x .1) (emptying-not _ _ _ _ _ (c .before .before .before .loop .inv .1) (sym (c .before .is-open .ensures) ∙ x .0 .left))) (c .if1 .came),
 )
 

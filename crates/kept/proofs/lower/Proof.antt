@@ -47,7 +47,7 @@ returns-4 : tie.Need-returns-4
 returns-4 c =
     let open-some = c .before .before .before .before .before .if3 .left in
     let none-left = c .before .before .before .before .if4 .taken in
-    lowered _ _ _ (omega (arith, open-some)) _
+    lowered _ _ (search needs) (search needs) _ (omega (arith, open-some)) _
     (dangles-no-longer _ _ _ (search needs) (search needs) (λ e. omega (arith, none-left)) (omega (arith, open-some, none-left)) _
     (c .before .before .change .ensures .changed (rw length-set (search needs)) (search needs)))
 
@@ -61,7 +61,7 @@ returns-5 : tie.Need-returns-5
 returns-5 c =
     let open-some = c .before .before .before .before .before .before .if3 .left in
     let one-left = c .before .before .before .before .if5 .taken in
-    lowered _ _ _ (omega (arith, open-some)) _
+    lowered _ _ (search needs) (search needs) _ (omega (arith, open-some)) _
     (dangles-now _ _ _ (search needs) (search needs) one-left (λ e. omega (arith, open-some, one-left)) _
     (c .before .before .change2 .ensures .changed (rw length-set (search needs)) (search needs)))
 
@@ -71,7 +71,7 @@ same-length-3 c = search needs
 returns-6 : tie.Need-returns-6
 returns-6 c =
     let open-some = c .before .before .if3 .left in
-    lowered _ _ _ (omega (arith, open-some)) _
+    lowered _ _ (search needs) (search needs) _ (omega (arith, open-some)) _
     (dangles-never _ _ _ (search needs) (search needs) (λ e. omega (arith, c .if5 .left)) (λ e. omega (arith, open-some, c .before .if4 .left)))
 
 pub lower-spec : {M : Type 1} → statement M

@@ -43,7 +43,7 @@ ranks-rank-requires : (t : ℕ) → ranks-lts.Need-rank-requires (
   rank-reads.Asked,
   rank-reads.Learnt,
 ) (ranks-at t) ranks.Post
-ranks-rank-requires t c κs = let few = c .before .before .before .before .pre .1 in (few .0, few .2, few .1)
+ranks-rank-requires t c κs = let few = c .before .before .before .before .pre .1 in few .1
 
 ranks-add-result : (t : ℕ) → ranks-lts.Need-add-result (
   ranks-below t,
@@ -62,7 +62,7 @@ ranks-returns : (t : ℕ) → ranks-lts.Need-returns (
   rank-reads.Asked,
   rank-reads.Learnt,
 ) (ranks-at t) ranks.Post
-ranks-returns t c = both-ranked _ _ _ _ (c .before .before .if1 .taken) _ _ (c .before .ranks .ensures) (c .rank .ensures)
+ranks-returns t c = both-ranked _ _ _ _ (c .before .before .before .before .before .pre .1) (c .before .before .if1 .taken) _ _ (c .before .ranks .ensures) (c .rank .ensures)
 
 ranks-rank-requires-2 : (t : ℕ) → ranks-lts.Need-rank-requires-2 (
   ranks-below t,
@@ -70,7 +70,7 @@ ranks-rank-requires-2 : (t : ℕ) → ranks-lts.Need-rank-requires-2 (
   rank-reads.Asked,
   rank-reads.Learnt,
 ) (ranks-at t) ranks.Post
-ranks-rank-requires-2 t c κs = let few = c .before .before .before .pre .1 in (few .0, few .1, omega arith)
+ranks-rank-requires-2 t c κs = omega arith
 
 ranks-returns-2 : (t : ℕ) → ranks-lts.Need-returns-2 (
   ranks-below t,
@@ -78,7 +78,7 @@ ranks-returns-2 : (t : ℕ) → ranks-lts.Need-returns-2 (
   rank-reads.Asked,
   rank-reads.Learnt,
 ) (ranks-at t) ranks.Post
-ranks-returns-2 t c = x-ranked _ _ _ _ (c .before .if1 .left) _ (c .rank2 .ensures)
+ranks-returns-2 t c = x-ranked _ _ _ _ (c .before .before .before .before .pre .1) (c .before .if1 .left) _ (c .rank2 .ensures)
 
 pub +ranks-spec : {M : Type 1} → statement M
 +ranks-spec = close μ-ranks λ t. ranks-lts.spec (

@@ -1,7 +1,7 @@
 -- `logical::rank` meets its contract. Assumes nothing.
 use Prim.Native.Nat.{ℕ}
 use lib.ListN.{length-replicate, getD-replicate}
-use Rattle.logical.proofs.Ranking.{was-made, ranked}
+use Rattle.logical.proofs.Ranking.{unranked, ranked}
 use borrow.Author.Needs.{needs}
 use Rattle.logical.proofs.rank.Statement.{statement}
 use Rattle.logical.proofs.rank.Tie as tie
@@ -34,7 +34,7 @@ enum-told : tie.Need-enum-told
 enum-told c = search needs
 
 returns : tie.Need-returns
-returns c = was-made _ _ _ _ _ _ _ _ _ _ _ _ _ (c .before .before .before .before .before .before .before .before .before .before .before .before .before .before .pre) (length-replicate {A = ℕ} 1024 1) (λ q l. getD-replicate {A = ℕ} 1024 q 1 0 l) (length-replicate {A = ℕ} 10240 0) (length-replicate {A = ℕ} 1024 0) (c .before .before .before .before .before .before .before .before .before .pack-rows .ensures) (c .before .before .before .before .mark-fixed .ensures) (c .enum-told .given .1)
+returns c = unranked _ _ _ _ _ _ _ _ _ _ _ _ _ (c .before .before .before .before .before .before .before .before .before .before .before .before .before .before .pre) (length-replicate {A = ℕ} 1024 1) (λ q l. getD-replicate {A = ℕ} 1024 q 1 0 l) (length-replicate {A = ℕ} 10240 0) (length-replicate {A = ℕ} 1024 0) (c .before .before .before .before .before .before .before .before .before .pack-rows .ensures) (c .before .before .before .before .mark-fixed .ensures) (c .enum-told .given .1)
 
 returns-2 : tie.Need-returns-2
 returns-2 c = ranked _ _ _ _ _ _ _ _ _ _ _ _ _ (c .before .before .before .before .before .before .before .before .before .before .before .before .before .before .before .pre) (length-replicate {A = ℕ} 1024 1) (λ q l. getD-replicate {A = ℕ} 1024 q 1 0 l) (length-replicate {A = ℕ} 10240 0) (length-replicate {A = ℕ} 1024 0) (c .before .before .before .before .before .before .before .before .before .before .pack-rows .ensures) (c .before .before .before .before .before .mark-fixed .ensures) _ (c .before .found .given .1)

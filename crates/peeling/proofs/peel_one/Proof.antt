@@ -13,7 +13,7 @@ same-length : tie.Need-same-length
 same-length c = search needs
 
 returns : tie.Need-returns
-returns c = step-none _ _ _ _ _ _ _ (c .before .before .before .lowest .ensures) (c .before .before .before .before .before .before .before .before .before .pre .2) (c .if1 .taken)
+returns c = step-none _ _ _ _ _ _ _ (c .before .before .before .lowest .ensures) (c .before .before .before .before .before .before .before .before .before .pre .2) (omega arith)
 
 add-p : tie.Need-add-p
 add-p c = search needs

@@ -4,20 +4,20 @@ use mathlib.Core.Path.{_≡_, _∙_}
 use mathlib.Core.Bool.{true}
 use native.Mathlib.Omega.{arith}
 use lib.ListN.{length}
-use Rattle.peeling.specs.Peeling.{fits?}
-use Rattle.peeling.proofs.Steps.{Goes, room, fits-told, peels-refused, goes-start, peels-done, peels-stuck, goes-on}
+use Rattle.peeling.specs.Peeling.{enough?}
+use Rattle.peeling.proofs.Steps.{Goes, room, enough-told, peels-refused, goes-start, peels-done, peels-stuck, goes-on}
 use Rattle.peeling.proofs.peels_away.Statement.{statement}
 use Rattle.peeling.proofs.peels_away.Tie as tie
 
 abbrev Inv-loop : tie.InvT-loop
 Inv-loop n flat ends rows marks₀ work₀ size left₀ marks work left =
-    (fits? n (rows .first .0) (rows .count) (length marks₀) (length work₀) ≡ true) × Goes n flat ends (rows .first .0) (rows .count) (record { marks = marks₀; work = work₀ }) left (record { marks = marks; work = work })
+    (enough? n (rows .first .0) (rows .count) (length marks₀) (length work₀) ≡ true) × Goes n flat ends (rows .first .0) (rows .count) (record { marks = marks₀; work = work₀ }) left (record { marks = marks; work = work })
 
 abbrev μ-loop : tie.MeasureT-loop
 μ-loop n flat ends rows marks₀ work₀ size left₀ marks work left = left
 
-fits-requires : tie.Need-fits-requires Inv-loop μ-loop
-fits-requires c κs = search needs
+is-enough-requires : tie.Need-is-enough-requires Inv-loop μ-loop
+is-enough-requires c κs = search needs
 
 same-length : tie.Need-same-length Inv-loop μ-loop
 same-length c = search needs
@@ -26,13 +26,13 @@ same-length-2 : tie.Need-same-length-2 Inv-loop μ-loop
 same-length-2 c = search needs
 
 returns : tie.Need-returns Inv-loop μ-loop
-returns c = peels-refused _ _ _ _ _ (record { marks = c .before .before .before .before .before .before .before .before .args .marks .now; work = c .before .before .before .before .before .before .before .before .args .work .now }) _ (c .before .fits2 .ensures) (c .if1 .taken)
+returns c = peels-refused _ _ _ _ _ (record { marks = c .before .before .before .before .before .before .before .before .args .marks .now; work = c .before .before .before .before .before .before .before .before .args .work .now }) _ (c .before .is-enough .ensures) (c .if1 .taken)
 
 count-marks-requires : tie.Need-count-marks-requires Inv-loop μ-loop
 count-marks-requires c κs = search needs
 
 loop-holds : tie.Need-loop-holds Inv-loop μ-loop
-loop-holds c = let f = fits-told _ _ _ _ _ _ (c .before .before .before .fits2 .ensures) (c .before .before .if1 .left) in (f, goes-start _ _ _ _ _ (record { marks = c .before .before .before .before .before .before .before .before .before .before .args .marks .now; work = c .before .before .before .before .before .before .before .before .before .before .args .work .now }) _ f (c .count-marks .ensures))
+loop-holds c = let f = enough-told _ _ _ _ _ _ (c .before .before .before .is-enough .ensures) (c .before .before .if1 .left) in (f, goes-start _ _ _ _ _ (record { marks = c .before .before .before .before .before .before .before .before .before .before .args .marks .now; work = c .before .before .before .before .before .before .before .before .before .before .args .work .now }) _ f (c .count-marks .ensures))
 
 peel-one-requires : tie.Need-peel-one-requires Inv-loop μ-loop
 peel-one-requires c κs =
@@ -73,7 +73,7 @@ peels-away-spec =
     (tie.spec
     Inv-loop
     μ-loop
-    fits-requires
+    is-enough-requires
     same-length
     same-length-2
     returns

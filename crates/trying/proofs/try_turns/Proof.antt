@@ -6,13 +6,13 @@ use borrow.Author.Tests.{not-false}
 use Rattle.binary.proofs.Bits.{never}
 use Rattle.turns.specs.Turns.{Working}
 use Rattle.trying.specs.Trying.{Tried}
-use Rattle.trying.proofs.Trying.{fits-out, tries-refused, tries-told, tries-unknown}
+use Rattle.trying.proofs.Trying.{enough-out, tries-refused, tries-told, tries-unknown}
 use borrow.Author.Needs.{needs}
 use Rattle.trying.proofs.try_turns.Statement.{statement}
 use Rattle.trying.proofs.try_turns.Tie as tie
 
-fits-requires : tie.Need-fits-requires
-fits-requires c κs = search needs
+is-enough-requires : tie.Need-is-enough-requires
+is-enough-requires c κs = search needs
 
 same-length : tie.Need-same-length
 same-length c = search needs
@@ -30,7 +30,7 @@ returns c =
 
 tried-requires : tie.Need-tried-requires
 tried-requires c κs =
-    let f = fits-out _ _ _ _ _ _ _ (sym (c .before .before .before .before .fits2 .ensures) ∙ not-false _ (c .before .before .before .if1 .left)) in
+    let f = enough-out _ _ _ _ _ _ _ (sym (c .before .before .before .before .is-enough .ensures) ∙ not-false _ (c .before .before .before .if1 .left)) in
     (f .size, f .in-marks, f .in-forms, f .in-work, f .few, f .in-lit, f .last)
 
 enum-told : tie.Need-enum-told
@@ -38,7 +38,7 @@ enum-told c = search needs
 
 reopen-requires : tie.Need-reopen-requires
 reopen-requires c κs =
-    let f = fits-out _ _ _ _ _ _ _ (sym (c .before .before .before .before .before .before .before .before .before .before .before .before .before .before .fits2 .ensures) ∙ not-false _ (c .before .before .before .before .before .before .before .before .before .before .before .before .before .if1 .left)) in
+    let f = enough-out _ _ _ _ _ _ _ (sym (c .before .before .before .before .before .before .before .before .before .before .before .before .before .before .is-enough .ensures) ∙ not-false _ (c .before .before .before .before .before .before .before .before .before .before .before .before .before .if1 .left)) in
     omega (arith, f .in-marks, c .before .before .before .before .before .before .before .before .before .tried .ensures .stays .marks-long)
 
 enum-known-told : tie.Need-enum-known-told
@@ -59,7 +59,7 @@ same-length-6 c = search needs
 returns-2 : tie.Need-returns-2
 returns-2 c =
     let a = c .before .before .before .before .before .before .before .before .before .before .before .before .before .before .before .before .before .before .before .before .before .before .before .before .before .before .args in let old : Working = record { marks = a .marks .now; forms = a .forms .now; work = a .work .now } in
-    tries-unknown _ _ _ _ _ _ _ old (sym (c .before .before .before .before .before .before .before .before .before .before .before .before .before .before .before .before .before .fits2 .ensures) ∙ not-false _ (c .before .before .before .before .before .before .before .before .before .before .before .before .before .before .before .before .if1 .left)) _ _ (c .before .before .before .before .before .before .before .before .before .before .before .before .tried .ensures) _ (c .before .before .reopen .ensures)
+    tries-unknown _ _ _ _ _ _ _ old (sym (c .before .before .before .before .before .before .before .before .before .before .before .before .before .before .before .before .before .is-enough .ensures) ∙ not-false _ (c .before .before .before .before .before .before .before .before .before .before .before .before .before .before .before .before .if1 .left)) _ _ (c .before .before .before .before .before .before .before .before .before .before .before .before .tried .ensures) _ (c .before .before .reopen .ensures)
 
 same-length-7 : tie.Need-same-length-7
 same-length-7 c = search needs
@@ -73,7 +73,7 @@ same-length-9 c = search needs
 returns-3 : tie.Need-returns-3
 returns-3 c =
     let a = c .before .before .before .before .before .before .before .before .before .before .before .before .before .before .before .before .before .before .before .before .before .before .before .args in let old : Working = record { marks = a .marks .now; forms = a .forms .now; work = a .work .now } in
-    tries-told _ _ _ _ _ _ _ old (sym (c .before .before .before .before .before .before .before .before .before .before .before .before .before .before .fits2 .ensures) ∙ not-false _ (c .before .before .before .before .before .before .before .before .before .before .before .before .before .if1 .left)) _ _ (λ i. let z : _≡_ {A = Bool} true false = cc in never refl z) (subst (Tried _ _ _ _ _ _ _ old _) (c .before .told .given .1) (c .before .before .before .before .before .before .before .before .before .tried .ensures))
+    tries-told _ _ _ _ _ _ _ old (sym (c .before .before .before .before .before .before .before .before .before .before .before .before .before .before .is-enough .ensures) ∙ not-false _ (c .before .before .before .before .before .before .before .before .before .before .before .before .before .if1 .left)) _ _ (λ i. let z : _≡_ {A = Bool} true false = cc in never refl z) (subst (Tried _ _ _ _ _ _ _ old _) (c .before .told .given .1) (c .before .before .before .before .before .before .before .before .before .tried .ensures))
 
 same-length-10 : tie.Need-same-length-10
 same-length-10 c = search needs
@@ -87,13 +87,13 @@ same-length-12 c = search needs
 returns-4 : tie.Need-returns-4
 returns-4 c =
     let a = c .before .before .before .before .before .before .before .before .before .before .before .before .before .before .before .before .before .before .before .before .before .before .before .args in let old : Working = record { marks = a .marks .now; forms = a .forms .now; work = a .work .now } in
-    tries-told _ _ _ _ _ _ _ old (sym (c .before .before .before .before .before .before .before .before .before .before .before .before .before .before .fits2 .ensures) ∙ not-false _ (c .before .before .before .before .before .before .before .before .before .before .before .before .before .if1 .left)) _ _ (λ i. let z : _≡_ {A = Bool} true false = cc in never refl z) (subst (Tried _ _ _ _ _ _ _ old _) (c .before .told2 .given .1) (c .before .before .before .before .before .before .before .before .before .tried .ensures))
+    tries-told _ _ _ _ _ _ _ old (sym (c .before .before .before .before .before .before .before .before .before .before .before .before .before .before .is-enough .ensures) ∙ not-false _ (c .before .before .before .before .before .before .before .before .before .before .before .before .before .if1 .left)) _ _ (λ i. let z : _≡_ {A = Bool} true false = cc in never refl z) (subst (Tried _ _ _ _ _ _ _ old _) (c .before .told2 .given .1) (c .before .before .before .before .before .before .before .before .before .tried .ensures))
 
 pub try-turns-spec : {M : Type 1} → statement M
 try-turns-spec =
     tie.close
     (tie.spec
-    fits-requires
+    is-enough-requires
     same-length
     same-length-2
     same-length-3

@@ -1,13 +1,13 @@
 -- `turns::run_turns` meets its contract. Assumes nothing.
 use Rattle.scans.specs.Rows.{RowLists}
 use Rattle.turns.specs.Turns.{Working}
-use Rattle.turns.proofs.Marked.{fits-out, does-fit, answers-refused, answers-over}
+use Rattle.turns.proofs.Marked.{enough-out, enough-told, answers-refused, answers-over}
 use borrow.Author.Needs.{needs}
 use Rattle.turns.proofs.run_turns.Statement.{statement}
 use Rattle.turns.proofs.run_turns.Tie as tie
 
-fits-requires : tie.Need-fits-requires
-fits-requires c κs = search needs
+is-enough-requires : tie.Need-is-enough-requires
+is-enough-requires c κs = search needs
 
 same-length : tie.Need-same-length
 same-length c = search needs
@@ -21,14 +21,14 @@ same-length-3 c = search needs
 returns : tie.Need-returns
 returns c =
     let old : Working = record { marks = c .before .before .before .before .before .before .before .before .before .before .before .args .marks .now; forms = c .before .before .before .before .before .before .before .before .before .before .before .args .forms .now; work = c .before .before .before .before .before .before .before .before .before .before .before .args .work .now } in
-    answers-refused _ _ _ _ _ old _ (c .before .fits2 .ensures) (c .if1 .taken)
+    answers-refused _ _ _ _ _ old _ (c .before .is-enough .ensures) (c .if1 .taken)
 
 run-marked-requires : tie.Need-run-marked-requires
 run-marked-requires c κs =
     let old : Working = record { marks = c .before .before .before .before .before .before .before .before .before .before .before .before .before .before .args .marks .now; forms = c .before .before .before .before .before .before .before .before .before .before .before .before .before .before .args .forms .now; work = c .before .before .before .before .before .before .before .before .before .before .before .before .before .before .args .work .now } in
     let a = c .before .before .before .before .before .before .before .before .before .before .before .before .before .before .args in
     let r : RowLists = record { flat = a .flat .now; ends = a .ends .now; lit = a .lit .now; first = a .rows .first .0; count = a .rows .count } in
-    let v = fits-out _ r old (does-fit _ _ (c .before .before .before .before .fits2 .ensures) (c .before .before .before .if1 .left)) in
+    let v = enough-out _ r old (enough-told _ _ (c .before .before .before .before .is-enough .ensures) (c .before .before .before .if1 .left)) in
     (v .size, v .marks, v .forms, v .work, v .few, v .lit, v .last)
 
 same-length-4 : tie.Need-same-length-4
@@ -43,13 +43,13 @@ same-length-6 c = c .before .before .before .before .before .before .run-marked 
 returns-2 : tie.Need-returns-2
 returns-2 c =
     let old : Working = record { marks = c .before .before .before .before .before .before .before .before .before .before .before .before .before .before .before .before .before .before .before .before .before .args .marks .now; forms = c .before .before .before .before .before .before .before .before .before .before .before .before .before .before .before .before .before .before .before .before .before .args .forms .now; work = c .before .before .before .before .before .before .before .before .before .before .before .before .before .before .before .before .before .before .before .before .before .args .work .now } in
-    answers-over _ _ _ _ _ old _ (c .before .before .before .before .before .before .before .before .before .before .before .fits2 .ensures) (c .before .before .before .before .before .before .before .before .before .before .if1 .left) _ _ (c .before .before .before .before .before .before .run-marked .ensures)
+    answers-over _ _ _ _ _ old _ (c .before .before .before .before .before .before .before .before .before .before .before .is-enough .ensures) (c .before .before .before .before .before .before .before .before .before .before .if1 .left) _ _ (c .before .before .before .before .before .before .run-marked .ensures)
 
 pub run-turns-spec : {M : Type 1} → statement M
 run-turns-spec =
     tie.close
     (tie.spec
-    fits-requires
+    is-enough-requires
     same-length
     same-length-2
     same-length-3

@@ -29,7 +29,7 @@ same-length-2 c = search needs
 returns : tie.Need-returns
 returns c =
     let a = c .before .before .before .before .before .before .before .before .before .before .before .before .before .args in
-    row-read _ _ _ _ _ (now (a .bytes)) (a .w) _ _ _ _ (search needs) (c .before .before .before .before .before .before .before .before .before .qubits-of .ensures) (c .before .before .before .before .take-row .ensures)
+    row-read _ _ _ _ _ (now (a .bytes)) (a .w) _ _ _ _ (search needs) (c .before .before .before .before .before .before .before .before .before .qubits-of .ensures .first) (c .before .before .before .before .take-row .ensures)
 
 pub read-row-spec : {M : Type 1} → statement M
 read-row-spec =

@@ -17,7 +17,7 @@ same-length : tie.Need-same-length
 same-length c = search needs
 
 returns : tie.Need-returns
-returns c = peels-none _ _ _ _ _ (record { marks = c .before .before .before .before .before .before .before .before .before .before .args .marks .now; forms = c .before .before .before .before .before .before .before .before .before .before .args .forms .now; work = c .before .before .before .before .before .before .before .before .before .before .args .work .now }) _ (c .before .before .before .lowest .ensures) (c .before .before .before .before .before .before .before .before .before .before .pre .3) (c .if1 .taken)
+returns c = peels-none _ _ _ _ _ (record { marks = c .before .before .before .before .before .before .before .before .before .before .args .marks .now; forms = c .before .before .before .before .before .before .before .before .before .before .args .forms .now; work = c .before .before .before .before .before .before .before .before .before .before .args .work .now }) _ (c .before .before .before .lowest .ensures) (c .before .before .before .before .before .before .before .before .before .before .pre .3) (omega arith)
 
 cast-at : tie.Need-cast-at
 cast-at c = search needs
@@ -35,7 +35,7 @@ same-length-2 : tie.Need-same-length-2
 same-length-2 c = search needs
 
 returns-2 : tie.Need-returns-2
-returns-2 c = peels-unknown _ _ _ _ _ _ _ (stays-same _ _) (λ q. refl)
+returns-2 c = peels-unknown _ _ _ _ _ _ _ _ (c .before .before .before .before .before .before .lowest .ensures) (omega arith) (stays-same _ _) (λ q. refl)
 
 cast-t22 : tie.Need-cast-t22
 cast-t22 c = search needs
@@ -50,7 +50,7 @@ same-length-4 : tie.Need-same-length-4
 same-length-4 c = search needs
 
 returns-3 : tie.Need-returns-3
-returns-3 c = peels-unknown _ _ _ _ _ _ _ (stays-same _ _) (λ q. refl)
+returns-3 c = peels-unknown _ _ _ _ _ _ _ _ (c .before .before .before .before .before .before .before .before .before .lowest .ensures) (omega arith) (stays-same _ _) (λ q. refl)
 
 add-t22 : tie.Need-add-t22
 add-t22 c = search needs
@@ -86,7 +86,7 @@ returns-4 : tie.Need-returns-4
 returns-4 c =
     let a = c .before .before .before .before .before .before .before .before .before .before .before .before .before .before .before .before .before .before .before .before .before .before .before .before .before .before .before .before .before .before .before .before .args in
     let old : Working = record { marks = a .marks .now; forms = a .forms .now; work = a .work .now } in
-    peels-unknown _ _ _ _ _ old _ (c .before .before .before .before .before .before .before .settle .ensures .stays)
+    peels-unknown _ _ _ _ _ old _ _ (c .before .before .before .before .before .before .before .before .before .before .before .before .before .before .before .before .before .before .before .before .before .before .before .before .before .lowest .ensures) (omega (arith, c .before .before .before .before .before .before .before .before .before .before .before .before .before .before .before .before .before .before .before .before .before .before .if1 .left)) (c .before .before .before .before .before .before .before .settle .ensures .stays)
     (settled-marks _ _ _ _ _ old _ _ _ _ (sym (c .before .before .before .before .before .before .before .before .before .before .before .before .before .before .before .before .before .is-open .ensures) ∙ not-false _ (c .before .before .before .before .before .before .before .before .before .before .before .before .before .before .before .before .if3 .left)) (c .before .before .before .before .before .before .before .settle .ensures))
 
 same-length-8 : tie.Need-same-length-8
