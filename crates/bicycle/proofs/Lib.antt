@@ -3,3 +3,5 @@ pub mod Sorting
 pub mod Rows
 pub mod Loading
 pub mod Law
+pub mod Stores
+pub mod Shifting

@@ -11,8 +11,7 @@ use Rattle.binary.specs.Bits.{_⊕_}
 use Rattle.binary.specs.Meaning.{Qubits, Row, All, has, odd, Even, Commute, commute?}
 use Rattle.binary.proofs.Bits.{bit, never, or-false, iff-eq, xors, ⊕-self, ⊕-assoc}
 use Rattle.binary.proofs.Tests.{commute-test}
-use Rattle.code.specs.Tests.{Ascending}
-use Rattle.code.proofs.Order.{Distinct}
+use Rattle.code.specs.Tests.{Ascending, Distinct}
 use Rattle.bicycle.specs.declared.Term.{Term}
 use Rattle.bicycle.specs.declared.Terms.{Terms}
 use Rattle.bicycle.specs.declared.Bicycle.{Bicycle}

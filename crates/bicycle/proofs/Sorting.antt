@@ -10,8 +10,7 @@ use borrow.Author.Tests.{leb-true, leb-false, le-leb, lt-leb, lt-ltb, eqb-false}
 use Rattle.binary.specs.Bits.{_⊕_}
 use Rattle.binary.specs.Meaning.{Qubits, Row, All, has, odd}
 use Rattle.binary.proofs.Bits.{bit, never, and-in, and-out, or-false, ⊕-left-comm}
-use Rattle.code.specs.Tests.{ascendingFrom, ascending?, Ascending}
-use Rattle.code.proofs.Order.{Distinct}
+use Rattle.code.specs.Tests.{ascendingFrom, ascending?, Ascending, Distinct}
 use Rattle.bicycle.specs.Bicycle.{insert, sorted}
 
 ----------------------------------------------------------------------
@@ -92,3 +91,11 @@ module _ (x l h : ℕ) (low : l ≤ h) where
 
 pub exchanged : (x y z : ℕ) → z < y → sorted (x ∷ z ∷ y ∷ []) ≡ sorted (x ∷ y ∷ z ∷ [])
 exchanged x y z h = let e : insert z (y ∷ []) ≡ insert y (z ∷ []) = rw (le-leb z y (omega arith), lt-leb y z h) in ap (insert x) e
+
+all-insert : (P : ℕ → Type 0) (q : ℕ) (ps : List ℕ) → P q → All P ps → All P (insert q ps)
+all-insert P q [] h a = (h, tt)
+all-insert P q (p ∷ ps) h a = bit (leb q p) (λ e. rw e (h, a)) (λ e. rw e (a .0, all-insert P q ps h (a .1)))
+
+pub all-sorted : (P : ℕ → Type 0) (qs : List ℕ) → All P qs → All P (sorted qs)
+all-sorted P [] a = tt
+all-sorted P (q ∷ qs) a = all-insert P q (sorted qs) (a .0) (all-sorted P qs (a .1))

@@ -5,9 +5,11 @@ ghost use mathlib.Core.List.{[], _∷_};
 ghost use Prim.Native.Nat.{_+_, _*_, _/_, _%_, _≤_, _<_};
 ghost use lib.Dec.{ltb};
 ghost use lib.ListN.{length, getD};
+ghost use lib.Seq.{sets};
 ghost use Rattle.lists.specs.Filled.{Filled};
+ghost use Rattle.binary.specs.Meaning.{All};
 ghost use Rattle.bicycle.specs.Bicycle.{places, forward, backward, sorted, grid?, outside?, bad?, term?, short?, flatRows, Writes};
-ghost use Rattle.bicycle.specs.Writing.{three, Small, shifted, backOf, back, sixOf, rowOf, RowPut};
+ghost use Rattle.bicycle.specs.Writing.{three, Small, shifted, Shifts, backOf, back, sixOf, rowBy, RowsPut};
 
 // A term (a, b).
 pub struct Term {
@@ -99,7 +101,7 @@ fn moved(l: usize, m: usize, p: usize, a: usize, b: usize) -> u16
 // A place moved by three terms, the three places ascending.
 fn shifted(l: usize, m: usize, p: usize, t: Terms) -> Three
     requires { ⌜ Small l m × (p < 512) ⌝ }
-    ensures { λ r. ⌜ three r ≡ shifted l m p t ⌝ }
+    ensures { λ r. ⌜ Shifts l m p t r ⌝ }
 {
     let one = t.p;
     let two = t.q;
@@ -123,8 +125,8 @@ fn back_of(l: u16, m: u16, t: Term) -> Term
 
 // A row's six numbers written from an element on, those of the right block so much higher.
 fn put_row(rows: &mut [u16], at: usize, lift: u16, left: Three, right: Three)
-    requires { ⌜ (at + 6 ≤ length (now rows)) × (lift ≤ 512) × (right .low < 512) × (right .mid < 512) × (right .high < 512) ⌝ }
-    ensures { λ _. ⌜ RowPut at (sixOf lift left right) (now (rows .entry)) (now (rows .exit)) ⌝ }
+    requires { ⌜ (at + 6 ≤ length (now rows)) × (lift ≤ 512) × All (λ q. q < lift) (three right) ⌝ }
+    ensures { λ _. ⌜ now (rows .exit) ≡ sets (now (rows .entry)) at (sixOf lift left right) ⌝ }
 {
     rows[at] = left.low;
     rows[at + 1] = left.mid;
@@ -132,4 +134,19 @@ fn put_row(rows: &mut [u16], at: usize, lift: u16, left: Three, right: Three)
     rows[at + 3] = lift + right.low;
     rows[at + 4] = lift + right.mid;
     rows[at + 5] = lift + right.high;
+}
+
+// The rows of all places, one after the other from a row on, by terms for the left and the right block.
+fn put_rows(l: usize, m: usize, left: Terms, right: Terms, first: usize, rows: &mut [u16])
+    requires { ⌜ Small l m × (6 * (first + l * m) ≤ length (now rows)) ⌝ }
+    ensures { λ _. ⌜ RowsPut first (l * m) (rowBy l m left right) (now (rows .entry)) (now (rows .exit)) ⌝ }
+{
+    let count = l * m;
+    let mut p: usize = 0;
+    while p < count {
+        let on_left = shifted(l, m, p, left);
+        let on_right = shifted(l, m, p, right);
+        put_row(rows, 6 * (first + p), count as u16, on_left, on_right);
+        p += 1;
+    }
 }

@@ -1,3 +1,6 @@
+-- `bicycle::shifted` meets its contract. Assumes nothing.
+use native.Mathlib.Omega.{arith}
+use Rattle.bicycle.proofs.Shifting.{shifts}
 use borrow.Author.Needs.{needs}
 use Rattle.bicycle.proofs.shifted.Statement.{statement}
 use Rattle.bicycle.proofs.shifted.Tie as tie
@@ -48,7 +51,12 @@ sort-requires c κs = search needs
 
 -- src/lib.rt:100:1
 returns : tie.Need-returns
-returns c = ?
+returns c =
+    let a = c .before .before .before .before .before .before .before .before .before .before .before .before .before .args in
+    let z = c .before .moved3 .ensures in
+    let y = c .before .before .before .before .moved2 .ensures in
+    let x = c .before .before .before .before .before .before .before .moved .ensures in
+    shifts (a .l) (a .m) (a .p) (a .t) _ _ _ _ (omega arith) (omega arith) x y z (c .sort .ensures)
 
 pub shifted-spec : {M : Type 1} → statement M
 shifted-spec =
