@@ -14,21 +14,27 @@ use Rattle.bicycle.proofs.Sorting.{length-sorted}
 use Rattle.bicycle.proofs.Rows.{Accepted, accepted, each-all, x-rows, z-rows, commuting}
 use Rattle.bicycle.proofs.Loading.{carried}
 
-length-each : (row : ℕ → Row) (i n : ℕ) → length (each row i n) ≡ n
+pub length-each : (row : ℕ → Row) (i n : ℕ) → length (each row i n) ≡ n
 length-each row i zero = refl
 length-each row i (suc n) = ap suc (length-each row (suc i) n)
 
-all-append : (P : Row → Type 0) (rs ss : List Row) → All P rs → All P ss → All P (rs ++ ss)
+pub all-append : (P : Row → Type 0) (rs ss : List Row) → All P rs → All P ss → All P (rs ++ ss)
 all-append P [] ss a b = b
 all-append P (r ∷ rs) ss a b = (a .0, all-append P rs ss (a .1) b)
 
-x-weight : (g : Bicycle) (p : ℕ) → length (xRow g p) ≡ 6
+pub x-weight : (g : Bicycle) (p : ℕ) → length (xRow g p) ≡ 6
 unfolding xRow
 x-weight g p = length-sorted (xHolds g p)
 
-z-weight : (g : Bicycle) (p : ℕ) → length (zRow g p) ≡ 6
+pub z-weight : (g : Bicycle) (p : ℕ) → length (zRow g p) ≡ 6
 unfolding zRow
 z-weight g p = length-sorted (zHolds g p)
+
+-- All rows have six qubits.
+pub all-six : (g : Bicycle) → All (λ r. length r ≡ 6) (codeOf g .xs ++ codeOf g .zs)
+all-six g =
+    all-append (λ r. length r ≡ 6) (codeOf g .xs) (codeOf g .zs) (each-all (λ r. length r ≡ 6) (xRow g) 0 (places g) (λ p h. x-weight g p))
+    (each-all (λ r. length r ≡ 6) (zRow g) 0 (places g) (λ p h. z-weight g p))
 
 pub lawful : BicycleLaw
 unfolding BicycleLaw
@@ -38,7 +44,7 @@ lawful g e f =
     record {
       xs = x-rows g v;
       zs = z-rows g v;
-      weights = all-append (λ r. length r ≡ 6) (codeOf g .xs) (codeOf g .zs) (each-all (λ r. length r ≡ 6) (xRow g) 0 (places g) (λ p h. x-weight g p)) (each-all (λ r. length r ≡ 6) (zRow g) 0 (places g) (λ p h. z-weight g p));
+      weights = all-six g;
       commute = commuting g v;
       loads = λ a. carried (record { n = 2 * places g; x = places g; z = places g }) a (codeOf g .xs) (codeOf g .zs)
           (rw (le-leb 1 (2 * places g) (omega arith), le-leb (2 * places g) 1024 (v .small), le-leb (places g) 512 (omega (arith, v .small))))

@@ -5,3 +5,4 @@ pub mod Loading
 pub mod Law
 pub mod Stores
 pub mod Shifting
+pub mod Flat

@@ -103,7 +103,7 @@ odd-same e f (q ∷ qs) a = ap₂ _⊕_ (a .0) (odd-same e f qs (a .1))
 abbrev moved : (Term → ℕ) → Terms → List ℕ
 moved f t = map f (listOf t)
 
-three-below : (P : ℕ → Type 0) (f : Term → ℕ) (t : Terms) → ((u : Term) → P (f u)) → All P (moved f t)
+pub three-below : (P : ℕ → Type 0) (f : Term → ℕ) (t : Terms) → ((u : Term) → P (f u)) → All P (moved f t)
 three-below P f t h = (h (t .p), (h (t .q), (h (t .r), tt)))
 
 -- Where unequal terms move it to unequal places.

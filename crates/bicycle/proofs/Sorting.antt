@@ -1,8 +1,8 @@
 -- Numbers in ascending order: the same set, and strictly ascending where no number comes twice. Assumes nothing.
 use mathlib.Core.Path.{_≡_, refl, sym, ap, _∙_}
 use mathlib.Core.Bool.{Bool, true, false, _&&_, _||_, cond}
-use mathlib.Core.List.{List, [], _∷_, _++_}
-use Prim.Native.Nat.{ℕ, suc, _<_, _≤_}
+use mathlib.Core.List.{List, [], _∷_, _++_, map}
+use Prim.Native.Nat.{ℕ, suc, _+_, _<_, _≤_}
 use native.Mathlib.Omega.{arith}
 use lib.Dec.{eqb, leb, ltb}
 use lib.ListN.{length}
@@ -99,3 +99,32 @@ all-insert P q (p ∷ ps) h a = bit (leb q p) (λ e. rw e (h, a)) (λ e. rw e (a
 pub all-sorted : (P : ℕ → Type 0) (qs : List ℕ) → All P qs → All P (sorted qs)
 all-sorted P [] a = tt
 all-sorted P (q ∷ qs) a = all-insert P q (sorted qs) (a .0) (all-sorted P qs (a .1))
+
+----------------------------------------------------------------------
+-- Low and high numbers
+
+insert-join : (a : ℕ) (ls hs : List ℕ) → All (λ b. a ≤ b) hs → insert a (ls ++ hs) ≡ insert a ls ++ hs
+insert-join a [] [] k = refl
+insert-join a [] (b ∷ hs) k = rw (le-leb a b (k .0))
+insert-join a (l ∷ ls) hs k = bit (leb a l) (λ e. rw e) (λ e. rw e (ap (_∷_ l) (insert-join a ls hs k)))
+
+all-map : (P Q : ℕ → Type 0) → ((q : ℕ) → P q → Q q) → (qs : List ℕ) → All P qs → All Q qs
+all-map P Q f [] a = tt
+all-map P Q f (q ∷ qs) a = (f q (a .0), all-map P Q f qs (a .1))
+
+-- Numbers below a bound are sorted before those from it on.
+pub sorted-join : (n : ℕ) (ls hs : List ℕ) → All (λ a. a < n) ls → All (λ b. n ≤ b) hs → sorted (ls ++ hs) ≡ sorted ls ++ sorted hs
+sorted-join n [] hs low high = refl
+sorted-join n (l ∷ ls) hs low high =
+    ap (insert l) (sorted-join n ls hs (low .1) high)
+    ∙ insert-join l (sorted ls) (sorted hs) (all-map (λ b. n ≤ b) (λ b. l ≤ b) (λ b h. omega (arith, low .0)) (sorted hs) (all-sorted (λ b. n ≤ b) hs high))
+
+insert-raised : (n q : ℕ) (ps : List ℕ) → insert (n + q) (map (λ p. n + p) ps) ≡ map (λ p. n + p) (insert q ps)
+insert-raised n q [] = refl
+insert-raised n q (p ∷ ps) =
+    bit (leb q p) (λ e. rw (e, le-leb (n + q) (n + p) (omega (arith, leb-true q p e))))
+    (λ e. rw (e, lt-leb (n + q) (n + p) (omega (arith, leb-false q p e))) (ap (_∷_ (n + p)) (insert-raised n q ps)))
+
+pub sorted-raised : (n : ℕ) (qs : List ℕ) → sorted (map (λ q. n + q) qs) ≡ map (λ q. n + q) (sorted qs)
+sorted-raised n [] = refl
+sorted-raised n (q ∷ qs) = ap (insert (n + q)) (sorted-raised n qs) ∙ insert-raised n q (sorted qs)
