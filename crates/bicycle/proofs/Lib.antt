@@ -6,3 +6,5 @@ pub mod Law
 pub mod Stores
 pub mod Shifting
 pub mod Flat
+pub mod Answers
+pub mod Tied

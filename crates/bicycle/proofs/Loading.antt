@@ -52,10 +52,11 @@ module _ (s : Sizes) where
       → CarriedOut (loading s (done ++ rest) []) ws b → CarriedOut (loading s done []) (map (row X) rest ++ ws) b
   x-carried done [] ws b a h k after = subst (λ (xs : List Row). CarriedOut (loading s xs []) ws b) (append-nil done) after
   x-carried done (r ∷ rest) ws b a h k after =
-      let long : length (done ++ (r ∷ [])) ≡ length done + 1 = length-append done (r ∷ []) in
-      (x-taken done r (a .0) (omega arith) k,
-      subst (λ (c : History). CarriedOut c (map (row X) rest ++ ws) b) (sym (goes-on (done ++ (r ∷ [])) [] (omega arith)))
-      (x-carried (done ++ (r ∷ [])) rest ws b (a .1) (omega arith) k (subst (λ (xs : List Row). CarriedOut (loading s xs []) ws b) (sym (append-assoc done (r ∷ []) rest)) after)))
+      let long : length (done ++ (r ∷ [])) ≡ length done + 1 = length-append done (r ∷ []) in (
+        x-taken done r (a .0) (omega arith) k,
+        subst (λ (c : History). CarriedOut c (map (row X) rest ++ ws) b) (sym (goes-on (done ++ (r ∷ [])) [] (omega arith)))
+            (x-carried (done ++ (r ∷ [])) rest ws b (a .1) (omega arith) k (subst (λ (xs : List Row). CarriedOut (loading s xs []) ws b) (sym (append-assoc done (r ∷ []) rest)) after)),
+      )
 
   -- And the Z rows.
   z-carried : (xs done : List Row) (r : Row) (rest : List Row) → All (Ascending (s .n)) (r ∷ rest) → length xs ≡ s .x → length done + length (r ∷ rest) ≡ s .z
@@ -66,11 +67,12 @@ module _ (s : Sizes) where
       (z-last xs done r (a .0) e (omega arith) even, ends xs (done ++ (r ∷ [])) (omega arith))
   z-carried xs done r (r′ ∷ rest) a e h even =
       let long : length (done ++ (r ∷ [])) ≡ length done + 1 = length-append done (r ∷ []) in
-      let join : (done ++ (r ∷ [])) ++ (r′ ∷ rest) ≡ done ++ (r ∷ r′ ∷ rest) = append-assoc done (r ∷ []) (r′ ∷ rest) in
-      (z-taken xs done r (a .0) e (omega arith),
-      subst (λ (c : History). CarriedOut c (map (row Z) (r′ ∷ rest)) (ready (record { n = s .n; xs = xs; zs = done ++ (r ∷ r′ ∷ rest) }) emptyShot)) (sym (goes-on xs (done ++ (r ∷ [])) (omega arith)))
-      (subst (λ (zs : List Row). CarriedOut (loading s xs (done ++ (r ∷ []))) (map (row Z) (r′ ∷ rest)) (ready (record { n = s .n; xs = xs; zs = zs }) emptyShot)) join
-      (z-carried xs (done ++ (r ∷ [])) r′ rest (a .1) e (omega arith) (subst (λ (zs : List Row). commute? zs xs ≡ true) (sym join) even))))
+      let join : (done ++ (r ∷ [])) ++ (r′ ∷ rest) ≡ done ++ (r ∷ r′ ∷ rest) = append-assoc done (r ∷ []) (r′ ∷ rest) in (
+        z-taken xs done r (a .0) e (omega arith),
+        subst (λ (c : History). CarriedOut c (map (row Z) (r′ ∷ rest)) (ready (record { n = s .n; xs = xs; zs = done ++ (r ∷ r′ ∷ rest) }) emptyShot)) (sym (goes-on xs (done ++ (r ∷ [])) (omega arith)))
+            (subst (λ (zs : List Row). CarriedOut (loading s xs (done ++ (r ∷ []))) (map (row Z) (r′ ∷ rest)) (ready (record { n = s .n; xs = xs; zs = zs }) emptyShot)) join
+            (z-carried xs (done ++ (r ∷ [])) r′ rest (a .1) e (omega arith) (subst (λ (zs : List Row). commute? zs xs ≡ true) (sym join) even))),
+      )
 
   -- All of them, from the code's sizes on.
   pub carried : (a : History) (xs zs : List Row) → inRange (s .n) (s .x) (s .z) ≡ true → length xs ≡ s .x → length zs ≡ s .z → 0 < s .z
@@ -78,7 +80,8 @@ module _ (s : Sizes) where
       → CarriedOut a (size (s .n) (s .x) (s .z) ∷ (map (row X) xs ++ map (row Z) zs)) (ready (record { n = s .n; xs = xs; zs = zs }) emptyShot)
   unfolding refusal
   carried a xs [] range e f h good-xs good-zs even = absurd (omega arith)
-  carried a xs (z ∷ zs) range e f h good-xs good-zs even =
-      (λ six. rw range,
-      subst (λ (c : History). CarriedOut c (map (row X) xs ++ map (row Z) (z ∷ zs)) (ready (record { n = s .n; xs = xs; zs = z ∷ zs }) emptyShot)) (sym (goes-on [] [] (omega arith)))
-      (x-carried [] xs (map (row Z) (z ∷ zs)) (ready (record { n = s .n; xs = xs; zs = z ∷ zs }) emptyShot) good-xs (omega arith) h (z-carried xs [] z zs good-zs e (omega arith) even)))
+  carried a xs (z ∷ zs) range e f h good-xs good-zs even = (
+    λ six. rw range,
+    subst (λ (c : History). CarriedOut c (map (row X) xs ++ map (row Z) (z ∷ zs)) (ready (record { n = s .n; xs = xs; zs = z ∷ zs }) emptyShot)) (sym (goes-on [] [] (omega arith)))
+        (x-carried [] xs (map (row Z) (z ∷ zs)) (ready (record { n = s .n; xs = xs; zs = z ∷ zs }) emptyShot) good-xs (omega arith) h (z-carried xs [] z zs good-zs e (omega arith) even)),
+  )

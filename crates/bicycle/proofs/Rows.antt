@@ -209,15 +209,17 @@ module _ (g : Bicycle) (v : Accepted g) (p q : ℕ) (here : p < places g) where
       odd-sorted (has (xRow g p)) (zHolds g q)
       ∙ odd-join (has (xRow g p)) (moved (backward g q) (g .second)) (moved (λ t. onRight g (backward g q t)) (g .first))
       ∙ rw (on-left (g .second .p), on-left (g .second .q), on-left (g .second .r), on-right (g .first .p), on-right (g .first .q), on-right (g .first .r))
-      (rw (crossed (g .second .p) (g .first .p) (v .second .p) (v .first .p),
-      crossed (g .second .q) (g .first .p) (v .second .q) (v .first .p),
-      crossed (g .second .r) (g .first .p) (v .second .r) (v .first .p),
-      crossed (g .second .p) (g .first .q) (v .second .p) (v .first .q),
-      crossed (g .second .q) (g .first .q) (v .second .q) (v .first .q),
-      crossed (g .second .r) (g .first .q) (v .second .r) (v .first .q),
-      crossed (g .second .p) (g .first .r) (v .second .p) (v .first .r),
-      crossed (g .second .q) (g .first .r) (v .second .q) (v .first .r),
-      crossed (g .second .r) (g .first .r) (v .second .r) (v .first .r))
+      (rw (
+        crossed (g .second .p) (g .first .p) (v .second .p) (v .first .p),
+        crossed (g .second .q) (g .first .p) (v .second .q) (v .first .p),
+        crossed (g .second .r) (g .first .p) (v .second .r) (v .first .p),
+        crossed (g .second .p) (g .first .q) (v .second .p) (v .first .q),
+        crossed (g .second .q) (g .first .q) (v .second .q) (v .first .q),
+        crossed (g .second .r) (g .first .q) (v .second .r) (v .first .q),
+        crossed (g .second .p) (g .first .r) (v .second .p) (v .first .r),
+        crossed (g .second .q) (g .first .r) (v .second .q) (v .first .r),
+        crossed (g .second .r) (g .first .r) (v .second .r) (v .first .r),
+      )
       (twice (hit (g .first .p) (g .second .p)) (hit (g .first .q) (g .second .p)) (hit (g .first .r) (g .second .p)) (hit (g .first .p) (g .second .q)) (hit (g .first .q) (g .second .q)) (hit (g .first .r) (g .second .q)) (hit (g .first .p) (g .second .r)) (hit (g .first .q) (g .second .r)) (hit (g .first .r) (g .second .r))))
 
 ----------------------------------------------------------------------

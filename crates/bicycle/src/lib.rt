@@ -1,15 +1,12 @@
 // Bicycle codes from their sizes and terms (document 02, request c).
 ghost use mathlib.Core.Path.{_≡_};
-ghost use mathlib.Core.Bool.{_||_};
 ghost use mathlib.Core.List.{[], _∷_};
 ghost use Prim.Native.Nat.{_+_, _*_, _/_, _%_, _≤_, _<_};
-ghost use lib.Dec.{ltb};
-ghost use lib.ListN.{length, getD};
+ghost use lib.ListN.{length};
 ghost use lib.Seq.{sets};
-ghost use Rattle.lists.specs.Filled.{Filled};
 ghost use Rattle.binary.specs.Meaning.{All};
-ghost use Rattle.bicycle.specs.Bicycle.{places, forward, backward, sorted, grid?, outside?, bad?, term?, short?, flatRows, Writes};
-ghost use Rattle.bicycle.specs.Writing.{three, Small, shifted, Shifts, backOf, back, sixOf, rowBy, RowsPut};
+ghost use Rattle.bicycle.specs.Bicycle.{sorted, grid?, outside?, same?, bad?, bicycleAnswer, Writes};
+ghost use Rattle.bicycle.specs.Writing.{three, Small, Shifts, backOf, back, sixOf, rowBy, RowsPut};
 
 // A term (a, b).
 pub struct Term {
@@ -149,4 +146,98 @@ fn put_rows(l: usize, m: usize, left: Terms, right: Terms, first: usize, rows: &
         put_row(rows, 6 * (first + p), count as u16, on_left, on_right);
         p += 1;
     }
+}
+
+// Terms that move a place back.
+fn back(l: u16, m: u16, t: Terms) -> Terms
+    requires { ⌜ (t .p .a ≤ l) × (t .p .b ≤ m) × (t .q .a ≤ l) × (t .q .b ≤ m) × (t .r .a ≤ l) × (t .r .b ≤ m) ⌝ }
+    ensures { λ r. ⌜ r ≡ back l m t ⌝ }
+{
+    let p = t.p;
+    let q = t.q;
+    let r = t.r;
+    Terms {
+        p: back_of(l, m, p),
+        q: back_of(l, m, q),
+        r: back_of(l, m, r),
+    }
+}
+
+// How many places there are; of any sizes the number fits.
+fn area(l: u16, m: u16) -> u64
+    ensures { λ r. ⌜ (r ≡ l * m) × (r < 4294967296) ⌝ }
+{
+    (l as u64) * (m as u64)
+}
+
+// Whether l or m is 0, or 2 times l times m exceeds 1,024.
+fn is_grid(g: Bicycle) -> bool
+    ensures { λ r. ⌜ r ≡ grid? g ⌝ }
+{
+    (g.l == 0) | (g.m == 0) | (1024 < 2 * area(g.l, g.m))
+}
+
+// Whether a term lies outside the grid.
+fn is_outside(g: Bicycle, t: Term) -> bool
+    ensures { λ r. ⌜ r ≡ outside? g t ⌝ }
+{
+    (g.l <= t.a) | (g.m <= t.b)
+}
+
+fn is_same(t: Term, u: Term) -> bool
+    ensures { λ r. ⌜ r ≡ same? t u ⌝ }
+{
+    (t.a == u.a) & (t.b == u.b)
+}
+
+// Whether a term of a list lies outside the grid, or two are equal.
+fn is_bad(g: Bicycle, t: Terms) -> bool
+    ensures { λ r. ⌜ r ≡ bad? g t ⌝ }
+{
+    let p = t.p;
+    let q = t.q;
+    let r = t.r;
+    is_outside(g, p)
+        | is_outside(g, q)
+        | is_outside(g, r)
+        | is_same(p, q)
+        | is_same(p, r)
+        | is_same(q, r)
+}
+
+// The first refusal whose test passes: 13, then 14, then 12.
+fn answered(g: Bicycle, long: usize) -> BicycleAnswer
+    ensures { λ r. ⌜ r ≡ bicycleAnswer g long ⌝ }
+{
+    if is_grid(g) {
+        return BicycleAnswer::Refused(BicycleRefusal::Grid);
+    }
+    let first = g.first;
+    let second = g.second;
+    if is_bad(g, first) | is_bad(g, second) {
+        return BicycleAnswer::Refused(BicycleRefusal::Term);
+    }
+    if (long as u64) < 12 * area(g.l, g.m) {
+        return BicycleAnswer::Refused(BicycleRefusal::Short);
+    }
+    BicycleAnswer::Written
+}
+
+// The rows of a bicycle code, X rows and then Z rows, into a list of 12 times l times m numbers.
+pub fn write(g: Bicycle, rows: &mut [u16]) -> BicycleAnswer
+    ensures { λ r. ⌜ Writes g (now (rows .entry)) (now (rows .exit)) r ⌝ }
+{
+    let answer = answered(g, rows.len());
+    let BicycleAnswer::Written = answer else {
+        return answer;
+    };
+    let l = g.l as usize;
+    let m = g.m as usize;
+    let first = g.first;
+    let second = g.second;
+    put_rows(l, m, first, second, 0, rows);
+    let left = back(g.l, g.m, second);
+    let right = back(g.l, g.m, first);
+    put_rows(l, m, left, right, l * m, rows);
+    answer
 }

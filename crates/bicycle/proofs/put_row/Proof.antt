@@ -6,94 +6,70 @@ use Rattle.bicycle.proofs.Stores.{six-stores}
 use borrow.Author.Needs.{needs}
 use Rattle.bicycle.proofs.put_row.Statement.{statement}
 use Rattle.bicycle.proofs.put_row.Tie as tie
-use Rattle.bicycle.proofs.put_row.Reads as reads
-use Rattle.bicycle.proofs.put_row.Lts as lts
 
--- src/lib.rt:130:5
 mul-rows : tie.Need-mul-rows
 mul-rows c = search needs
 
--- src/lib.rt:130:5
 slice-write-rows : tie.Need-slice-write-rows
 slice-write-rows c = search needs
 
--- src/lib.rt:131:10
 add-rows : tie.Need-add-rows
 add-rows c = search needs
 
--- src/lib.rt:131:5
 mul-rows-2 : tie.Need-mul-rows-2
 mul-rows-2 c = search needs
 
--- src/lib.rt:131:5
 slice-write-rows-2 : tie.Need-slice-write-rows-2
 slice-write-rows-2 c = rw (length-set _ _ _) (omega arith)
 
--- src/lib.rt:132:10
 add-rows-2 : tie.Need-add-rows-2
 add-rows-2 c = search needs
 
--- src/lib.rt:132:5
 mul-rows-3 : tie.Need-mul-rows-3
 mul-rows-3 c = search needs
 
--- src/lib.rt:132:5
 slice-write-rows-3 : tie.Need-slice-write-rows-3
 slice-write-rows-3 c = rw (length-set _ _ _, length-set _ _ _) (omega arith)
 
--- src/lib.rt:133:20
 add-rows-3 : tie.Need-add-rows-3
 add-rows-3 c = search needs
 
--- src/lib.rt:133:10
 add-rows-4 : tie.Need-add-rows-4
 add-rows-4 c = search needs
 
--- src/lib.rt:133:5
 mul-rows-4 : tie.Need-mul-rows-4
 mul-rows-4 c = search needs
 
--- src/lib.rt:133:5
 slice-write-rows-4 : tie.Need-slice-write-rows-4
 slice-write-rows-4 c = rw (length-set _ _ _, length-set _ _ _, length-set _ _ _) (omega arith)
 
--- src/lib.rt:134:20
 add-rows-5 : tie.Need-add-rows-5
 add-rows-5 c = search needs
 
--- src/lib.rt:134:10
 add-rows-6 : tie.Need-add-rows-6
 add-rows-6 c = search needs
 
--- src/lib.rt:134:5
 mul-rows-5 : tie.Need-mul-rows-5
 mul-rows-5 c = search needs
 
--- src/lib.rt:134:5
 slice-write-rows-5 : tie.Need-slice-write-rows-5
 slice-write-rows-5 c = rw (length-set _ _ _, length-set _ _ _, length-set _ _ _, length-set _ _ _) (omega arith)
 
--- src/lib.rt:135:20
 add-rows-7 : tie.Need-add-rows-7
 add-rows-7 c = search needs
 
--- src/lib.rt:135:10
 add-rows-8 : tie.Need-add-rows-8
 add-rows-8 c = search needs
 
--- src/lib.rt:135:5
 mul-rows-6 : tie.Need-mul-rows-6
 mul-rows-6 c = search needs
 
--- src/lib.rt:135:5
 slice-write-rows-6 : tie.Need-slice-write-rows-6
 slice-write-rows-6 c = rw (length-set _ _ _, length-set _ _ _, length-set _ _ _, length-set _ _ _, length-set _ _ _) (omega arith)
 
--- src/lib.rt:126:1
 same-length : tie.Need-same-length
 same-length c = search needs
 
--- src/lib.rt:126:1
 returns : tie.Need-returns
 returns c =
     let a = c .before .before .before .args in
