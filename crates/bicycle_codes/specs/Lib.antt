@@ -1,3 +1,4 @@
 pub mod Bicycle
 pub mod Laws
 pub mod Writing
+pub mod Table

@@ -1,4 +1,7 @@
 // Bicycle codes from their sizes and terms (document 02, request c).
+mod table;
+
+pub use table::write_72;
 ghost use mathlib.Core.Path.{_≡_};
 ghost use mathlib.Core.List.{[], _∷_};
 ghost use Prim.Native.Nat.{_+_, _*_, _/_, _%_, _≤_, _<_};
