@@ -3,7 +3,7 @@
 --   RowsObey    the rows obey document 01
 --   HalfRan     the start and the turns of a half
 --   enough?     whether sizes are in range and lists long enough for the decode
---   HalfRuns    its start and its turns, where they are; otherwise nothing is written
+--   HalfRuns    the start and the turns, where it is told to be enough; otherwise nothing is written
 --   Finished    what the half leaves in its lists, by its word
 use mathlib.Core.Path.{_≡_}
 use mathlib.Core.Bool.{Bool, _&&_, cond}

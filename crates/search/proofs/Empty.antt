@@ -9,11 +9,11 @@ use native.Mathlib.Omega.{arith}
 use borrow.Author.Tests.{lt-ltb, le-ltb}
 use lib.Dec.{eqb}
 use lib.ListN.{length}
-use Rattle.binary.specs.Bits.{_⊕_, tally}
+use Rattle.binary.specs.Bits.{tally}
 use Rattle.binary.specs.Meaning.{Qubits, Row}
 use Rattle.binary.proofs.Bits.{bit, never, &&-false, not-out, eqb-eq, below-out, below-in, none-counted, counted-none}
 use Rattle.binary.proofs.WordBits.{order}
-use Rattle.search.specs.Route.{Stand, columnLength, former, without, takeBy, clearing, takeColumn, shortest, stepBy, step, steps, begin, known, route, empty?, clearable?, Same, stepBut, stepsBut, stepsIn, EmptyColumns, EmptyLaw}
+use Rattle.search.specs.Route.{Stand, columnLength, former, without, takeBy, clearing, takeColumn, shortest, stepBy, step, steps, begin, known, route, empty?, clearable?, Same, stepBut, stepsBut, stepsIn, EmptyLaw}
 use Rattle.search.proofs.Choices.{First?, first-none, first-out, Among, shortest-out, shortest-none, shortest-least, shortest-same}
 use Rattle.search.proofs.Stands.{take-same, same-eq, same-trans, take-untaken, ascend-same}
 use Rattle.search.proofs.Route.{none-untaken}

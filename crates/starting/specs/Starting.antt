@@ -103,8 +103,8 @@ enough? n lost lit first count other others work marks =
 abbrev pub enoughIn? : ℕ → RowLists → List ℕ → ℕ → ℕ → List ℕ → List ℕ → Bool
 enoughIn? n c lost other others work marks = enough? n (length lost) (length (c .lit)) (c .first) (c .count) other others (length work) (length marks)
 
--- Where sizes are in range and lists long enough, of rows that are strictly ascending and below n, and commute. Where peeling leaves a qubit the search is made, and the work list
--- has the columns of its route. Otherwise nothing is written.
+-- Where sizes are in range and lists long enough, of rows that are strictly ascending and below n, and commute. Otherwise nothing is written. Where peeling leaves a qubit the search is
+-- made, and the work list has the columns of its route.
 pub record Starts (n : ℕ) (c : RowLists) (lost : List ℕ) (other others : ℕ) (work work′ marks marks′ : List ℕ) : Type 0 where
   pub work-long : length work′ ≡ length work
   pub marks-long : length marks′ ≡ length marks
