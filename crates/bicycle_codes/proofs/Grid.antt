@@ -1,12 +1,12 @@
 -- The grid: sums and differences modulo a size, and the number of a place. Assumes nothing.
 use mathlib.Core.Path.{_≡_, sym, ap, ap₂, _∙_}
-use mathlib.Core.Bool.{Bool, true, false, _||_}
-use Prim.Native.Nat.{ℕ, zero, suc, _+_, _*_, _-_, _/_, _%_, _≤_, _<_}
+use mathlib.Core.Bool.{true}
+use Prim.Native.Nat.{ℕ, zero, suc, _+_, _*_, _-_, _/_, _%_, _<_}
 use native.Mathlib.Nat.{mod-lt, mod-eq-of-lt, mod-add-mod, add-mod-right, mul-add-div-right, mul-add-mod-self-right, div-eq-of-lt, add-zero, div-lt-iff-lt-mul, mul-le-mul-right, suc-mul}
 use native.Mathlib.Omega.{arith}
-use lib.Dec.{eqb, leb}
-use borrow.Author.Tests.{eqb-true, eq-eqb, leb-false}
-use Rattle.binary.proofs.Bits.{iff-eq, or-false}
+use lib.Dec.{eqb}
+use borrow.Author.Tests.{eqb-true, eq-eqb}
+use Rattle.binary.proofs.Bits.{iff-eq}
 use Rattle.bicycle_codes.specs.declared.Term.{Term}
 use Rattle.bicycle_codes.specs.declared.Bicycle.{Bicycle}
 use Rattle.bicycle_codes.specs.Bicycle.{place, places, forward, backward, same?}
@@ -71,11 +71,6 @@ module _ (g : Bicycle) (grid : Grid g) where
 
   row-below : (p : ℕ) → p < places g → p / g .m < g .l
   row-below p h = div-lt-iff-lt-mul (grid .m) .1 h
-
-  -- The number of a place.
-  pub place-is : (i j : ℕ) → i < g .l → j < g .m → (t : Term) → forward g (place g i j) t ≡ place g ((i + t .a) % g .l) ((j + t .b) % g .m)
-  unfolding forward
-  place-is i j h k t = ap₂ (λ (x y : ℕ). place g ((x + t .a) % g .l) ((y + t .b) % g .m)) (place-row i j k) (place-column i j k)
 
   pub forward-below : (p : ℕ) (t : Term) → forward g p t < places g
   unfolding forward

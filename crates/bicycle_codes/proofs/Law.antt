@@ -1,7 +1,7 @@
 -- The rows of all accepted sizes and terms are lawful. Assumes nothing.
-use mathlib.Core.Path.{_≡_, refl, ap, _∙_}
+use mathlib.Core.Path.{_≡_, refl, ap}
 use mathlib.Core.List.{List, [], _∷_, _++_}
-use Prim.Native.Nat.{ℕ, zero, suc, _*_, _≤_, _<_}
+use Prim.Native.Nat.{ℕ, zero, suc, _*_, _<_}
 use native.Mathlib.Nat.{mul-pos}
 use native.Mathlib.Omega.{arith}
 use lib.ListN.{length}
@@ -11,7 +11,7 @@ use Rattle.bicycle_codes.specs.declared.Bicycle.{Bicycle}
 use Rattle.bicycle_codes.specs.Bicycle.{places, xHolds, zHolds, xRow, zRow, each, codeOf}
 use Rattle.bicycle_codes.specs.Laws.{BicycleLaw}
 use Rattle.bicycle_codes.proofs.Sorting.{length-sorted}
-use Rattle.bicycle_codes.proofs.Rows.{Accepted, accepted, each-all, x-rows, z-rows, commuting}
+use Rattle.bicycle_codes.proofs.Rows.{accepted, each-all, x-rows, z-rows, commuting}
 use Rattle.bicycle_codes.proofs.Loading.{carried}
 
 pub length-each : (row : ℕ → Row) (i n : ℕ) → length (each row i n) ≡ n

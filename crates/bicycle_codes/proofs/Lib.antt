@@ -8,4 +8,4 @@ pub mod Shifting
 pub mod Flat
 pub mod Answers
 pub mod Tied
-pub mod Gross
+pub mod SeventyTwo

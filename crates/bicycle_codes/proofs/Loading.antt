@@ -1,19 +1,19 @@
 -- The rows as records are carried out to the last. Assumes nothing.
-use mathlib.Core.Path.{_≡_, refl, sym, ap, _∙_, subst}
-use mathlib.Core.Bool.{Bool, true, false, not, _&&_, cond}
+use mathlib.Core.Path.{_≡_, sym, ap, subst}
+use mathlib.Core.Bool.{Bool, true, false}
 use mathlib.Core.Option.{none}
 use mathlib.Core.List.{List, [], _∷_, _++_, map, append-assoc, append-nil}
-use Prim.Native.Nat.{ℕ, zero, suc, _+_, _*_, _≤_, _<_}
+use Prim.Native.Nat.{ℕ, suc, _+_, _<_}
 use native.Mathlib.Omega.{arith}
-use lib.Dec.{eqb, leb, ltb}
+use lib.Dec.{eqb, ltb}
 use lib.ListN.{length, length-append}
-use borrow.Author.Tests.{le-leb, lt-ltb, eq-eqb, ne-eqb}
+use borrow.Author.Tests.{lt-ltb, eq-eqb, ne-eqb}
 use Rattle.binary.specs.Meaning.{Row, All, commute?}
-use Rattle.code.specs.Tests.{ascending?, Ascending}
+use Rattle.code.specs.Tests.{Ascending}
 use Rattle.records.specs.declared.Sizes.{Sizes}
 use Rattle.records.specs.Records.{X, Z, Record, size, row}
-use Rattle.records.specs.History.{Code, History, loading, ready, emptyShot, loaded, addRow}
-use Rattle.records.specs.Table.{inRange, refusal, takes, clashes}
+use Rattle.records.specs.History.{History, loading, ready, emptyShot, loaded}
+use Rattle.records.specs.Table.{inRange, refusal}
 use Rattle.bicycle_codes.specs.Laws.{CarriedOut}
 
 -- One row more, not the last: the code goes on loading.

@@ -1,15 +1,15 @@
 -- The rows of sizes and terms that are accepted: each strictly ascending and below 2 × l × m, and every X row shares an even number of qubits with every Z row.
 -- Assumes nothing.
-use mathlib.Core.Path.{_≡_, refl, sym, ap, ap₂, _∙_, subst}
-use mathlib.Core.Bool.{Bool, true, false, not, _&&_, _||_, cond}
+use mathlib.Core.Path.{_≡_, refl, sym, ap, ap₂, _∙_}
+use mathlib.Core.Bool.{Bool, true, false, _||_, cond}
 use mathlib.Core.List.{List, [], _∷_, _++_, map}
 use Prim.Native.Nat.{ℕ, zero, suc, _+_, _*_, _≤_, _<_}
 use native.Mathlib.Omega.{arith}
 use lib.Dec.{eqb, leb, ltb}
 use borrow.Author.Tests.{leb-false, ltb-false, eqb-false, eqb-true, eq-eqb, ne-eqb}
 use Rattle.binary.specs.Bits.{_⊕_}
-use Rattle.binary.specs.Meaning.{Qubits, Row, All, has, odd, Even, Commute, commute?}
-use Rattle.binary.proofs.Bits.{bit, never, or-false, iff-eq, xors, ⊕-self, ⊕-assoc}
+use Rattle.binary.specs.Meaning.{Qubits, Row, All, has, odd, Even, commute?}
+use Rattle.binary.proofs.Bits.{bit, never, or-false, iff-eq, xors, ⊕-assoc}
 use Rattle.binary.proofs.Tests.{commute-test}
 use Rattle.code.specs.Tests.{Ascending, Distinct}
 use Rattle.bicycle_codes.specs.declared.Term.{Term}
@@ -91,10 +91,6 @@ all-join P (x ∷ ls) hs a b = (a .0, all-join P ls hs (a .1) b)
 odd-join : (e : Qubits) (ls hs : List ℕ) → odd e (ls ++ hs) ≡ odd e ls ⊕ odd e hs
 odd-join e [] hs = refl
 odd-join e (a ∷ ls) hs = ap (λ (b : Bool). e a ⊕ b) (odd-join e ls hs) ∙ sym (⊕-assoc (e a) (odd e ls) (odd e hs))
-
-odd-same : (e f : Qubits) (qs : List ℕ) → All (λ q. e q ≡ f q) qs → odd e qs ≡ odd f qs
-odd-same e f [] a = refl
-odd-same e f (q ∷ qs) a = ap₂ _⊕_ (a .0) (odd-same e f qs (a .1))
 
 ----------------------------------------------------------------------
 -- Three terms

@@ -1,5 +1,5 @@
 -- Numbers in ascending order: the same set, and strictly ascending where no number comes twice. Assumes nothing.
-use mathlib.Core.Path.{_≡_, refl, sym, ap, _∙_}
+use mathlib.Core.Path.{_≡_, refl, ap, _∙_}
 use mathlib.Core.Bool.{Bool, true, false, _&&_, _||_, cond}
 use mathlib.Core.List.{List, [], _∷_, _++_, map}
 use Prim.Native.Nat.{ℕ, suc, _+_, _<_, _≤_}
@@ -8,8 +8,8 @@ use lib.Dec.{eqb, leb, ltb}
 use lib.ListN.{length}
 use borrow.Author.Tests.{leb-true, leb-false, le-leb, lt-leb, lt-ltb, eqb-false}
 use Rattle.binary.specs.Bits.{_⊕_}
-use Rattle.binary.specs.Meaning.{Qubits, Row, All, has, odd}
-use Rattle.binary.proofs.Bits.{bit, never, and-in, and-out, or-false, ⊕-left-comm}
+use Rattle.binary.specs.Meaning.{Qubits, All, has, odd}
+use Rattle.binary.proofs.Bits.{bit, and-in, and-out, or-false, ⊕-left-comm}
 use Rattle.code.specs.Tests.{ascendingFrom, ascending?, Ascending, Distinct}
 use Rattle.bicycle_codes.specs.Bicycle.{insert, sorted}
 

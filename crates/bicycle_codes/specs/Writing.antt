@@ -4,21 +4,18 @@
 --   shifted    three places, a place moved by three terms, ascending
 --   Shifts     they are, and lie in the grid
 --   back       terms that move a place back
---   rowOf      row r of all rows: the X rows and then the Z rows
+--   sixOf      the six numbers of a row
 --   rowBy      a row by terms for its left and its right; RowsPut: so many rows written
 use mathlib.Core.Path.{_≡_}
-use mathlib.Core.Bool.{cond}
 use mathlib.Core.Logic.{_⊎_}
 use mathlib.Core.List.{List, [], _∷_, _++_, map}
 use Prim.Native.Nat.{ℕ, _+_, _*_, _-_, _/_, _%_, _≤_, _<_}
-use lib.Dec.{ltb}
 use lib.ListN.{length, getD}
 use Rattle.binary.specs.Meaning.{Row, All}
 use Rattle.bicycle_codes.specs.declared.Term.{Term}
 use Rattle.bicycle_codes.specs.declared.Terms.{Terms}
 use Rattle.bicycle_codes.specs.declared.Three.{Three}
-use Rattle.bicycle_codes.specs.declared.Bicycle.{Bicycle}
-use Rattle.bicycle_codes.specs.Bicycle.{places, listOf, sorted, xRow, zRow}
+use Rattle.bicycle_codes.specs.Bicycle.{listOf, sorted}
 
 abbrev pub three : Three → List ℕ
 three t = t .low ∷ t .mid ∷ t .high ∷ []
@@ -43,9 +40,6 @@ back l m t = record { p = backOf l m (t .p); q = backOf l m (t .q); r = backOf l
 -- The right block is so much higher.
 abbrev pub sixOf : ℕ → Three → Three → List ℕ
 sixOf lift left right = three left ++ map (λ q. lift + q) (three right)
-
-unfoldable pub rowOf : Bicycle → ℕ → Row
-rowOf g r = cond (ltb r (places g)) (xRow g r) (zRow g (r - places g))
 
 -- A row by terms for its left and its right.
 abbrev pub rowBy : ℕ → ℕ → Terms → Terms → ℕ → Row

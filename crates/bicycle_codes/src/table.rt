@@ -3,7 +3,7 @@ ghost use mathlib.Core.Path.{_≡_};
 ghost use Prim.Native.Nat.{_<_};
 ghost use lib.ListN.{getD};
 ghost use Rattle.bicycle_codes.specs.Bicycle.{flatRows, Writes};
-ghost use Rattle.bicycle_codes.specs.Table.{gross};
+ghost use Rattle.bicycle_codes.specs.Table.{code72};
 use crate::BicycleAnswer;
 use crate::BicycleRefusal;
 
@@ -446,14 +446,14 @@ const ROWS: [u16; 432] = [
 // Number k of the table.
 fn number(k: usize) -> u16
     requires { ⌜ k < 432 ⌝ }
-    ensures { λ r. ⌜ r ≡ getD (flatRows gross) k 0 ⌝ }
+    ensures { λ r. ⌜ r ≡ getD (flatRows code72) k 0 ⌝ }
 {
     ROWS[k]
 }
 
 // The rows of the 72-qubit code, into a list of 432 numbers: what `write` writes of its sizes and terms.
 pub fn write_72(rows: &mut [u16]) -> BicycleAnswer
-    ensures { λ r. ⌜ Writes gross (now (rows .entry)) (now (rows .exit)) r ⌝ }
+    ensures { λ r. ⌜ Writes code72 (now (rows .entry)) (now (rows .exit)) r ⌝ }
 {
     if rows.len() < 432 {
         return BicycleAnswer::Refused(BicycleRefusal::Short);

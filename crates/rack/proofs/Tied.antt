@@ -20,7 +20,7 @@ use Rattle.rack.proofs.rack_candidate.Kinds as candidate-kinds
 use Rattle.rack.proofs.rack_candidate.Reads as candidate-reads
 use Rattle.records.specs.Lists.{Lists, held, sixOf, lentOf}
 use Rattle.records.specs.States.{freshState}
-use Rattle.claim.specs.Calls.{passed, Passed}
+use Rattle.claim.specs.Calls.{passed}
 use Rattle.plain.specs.Plain.{plainState}
 use Rattle.rack.specs.Candidates.{RackGives}
 use Rattle.rack.specs.Runs.{rack-step, rack-look, RackKeeps}

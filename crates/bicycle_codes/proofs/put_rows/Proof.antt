@@ -1,6 +1,6 @@
 -- `bicycle_codes::put_rows` meets its contract: after p turns the rows of p places are written. Assumes nothing.
 use mathlib.Core.Path.{_≡_, refl}
-use Prim.Native.Nat.{ℕ, _*_, _-_, _≤_}
+use Prim.Native.Nat.{_*_, _-_, _≤_}
 use native.Mathlib.Omega.{arith}
 use Rattle.bicycle_codes.specs.Writing.{rowBy, RowsPut}
 use Rattle.bicycle_codes.proofs.Stores.{rows-none}

@@ -1,8 +1,5 @@
 -- `bicycle_codes::table::number` meets its contract: the rule computed once over all entries. Assumes nothing.
-use mathlib.Core.Path.{refl, ap}
-use mathlib.Core.List.{List}
-use Prim.Native.Nat.{ℕ}
-use lib.ListN.{getD}
+use mathlib.Core.Path.{refl}
 use Rattle.bicycle_codes.specs.Bicycle.{flatRows, xRow, zRow, forward, backward}
 use borrow.Author.Needs.{needs}
 use Rattle.bicycle_codes.proofs.table.number.Statement.{statement}

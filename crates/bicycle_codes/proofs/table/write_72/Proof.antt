@@ -1,17 +1,17 @@
 -- `bicycle_codes::table::write_72` meets its contract: after k turns the first k numbers are written. Assumes nothing.
-use Prim.Native.Nat.{ℕ, _-_, _≤_}
+use Prim.Native.Nat.{_-_, _≤_}
 use native.Mathlib.Omega.{arith}
 use lib.ListN.{length, getD}
 use Rattle.lists.specs.Filled.{Filled}
 use Rattle.lists.proofs.Filling.{fill-none, fill-turn, fill-end}
 use Rattle.bicycle_codes.specs.Bicycle.{flatRows}
-use Rattle.bicycle_codes.specs.Table.{gross}
-use Rattle.bicycle_codes.proofs.Gross.{short-table, whole-table}
+use Rattle.bicycle_codes.specs.Table.{code72}
+use Rattle.bicycle_codes.proofs.SeventyTwo.{short-table, whole-table}
 use Rattle.bicycle_codes.proofs.table.write_72.Statement.{statement}
 use Rattle.bicycle_codes.proofs.table.write_72.Tie as tie
 
 abbrev Inv-loop : tie.InvT-loop
-Inv-loop rows₀ k₀ rows k = (k ≤ 432) × (432 ≤ length rows) × Filled (λ i. getD (flatRows gross) i 0) k rows₀ rows
+Inv-loop rows₀ k₀ rows k = (k ≤ 432) × (432 ≤ length rows) × Filled (λ i. getD (flatRows code72) i 0) k rows₀ rows
 
 abbrev μ-loop : tie.MeasureT-loop
 μ-loop rows₀ k₀ rows k = 432 - k

@@ -1,5 +1,5 @@
 -- The answer of the table: its sizes and terms are accepted. Assumes nothing.
-use mathlib.Core.Path.{_≡_, refl, sym, subst}
+use mathlib.Core.Path.{refl, subst}
 use mathlib.Core.List.{List}
 use Prim.Native.Nat.{ℕ, _≤_, _<_}
 use lib.ListN.{length, getD}
@@ -9,15 +9,15 @@ use Rattle.bicycle_codes.specs.declared.BicycleRefusal.the-variants.{Sho
 use Rattle.bicycle_codes.specs.declared.BicycleAnswer.{BicycleAnswer}
 use Rattle.bicycle_codes.specs.declared.BicycleAnswer.the-variants.{Refused, Written}
 use Rattle.bicycle_codes.specs.Bicycle.{flatRows, RowsIn, Writes}
-use Rattle.bicycle_codes.specs.Table.{gross}
+use Rattle.bicycle_codes.specs.Table.{code72}
 use Rattle.bicycle_codes.proofs.Answers.{on-short, on-written}
 
-pub short-table : (l : List ℕ) → length l < 432 → Writes gross l l (Refused Short)
+pub short-table : (l : List ℕ) → length l < 432 → Writes code72 l l (Refused Short)
 short-table l h =
-    let e = on-short gross (length l) refl refl (lt-ltb (length l) 432 h) in
-    record { answer = e; rows = subst (λ (a : BicycleAnswer). RowsIn a gross l l) e refl }
+    let e = on-short code72 (length l) refl refl (lt-ltb (length l) 432 h) in
+    record { answer = e; rows = subst (λ (a : BicycleAnswer). RowsIn a code72 l l) e refl }
 
-pub whole-table : (old new : List ℕ) → 432 ≤ length old → Filled (λ k. getD (flatRows gross) k 0) 432 old new → Writes gross old new Written
+pub whole-table : (old new : List ℕ) → 432 ≤ length old → Filled (λ k. getD (flatRows code72) k 0) 432 old new → Writes code72 old new Written
 whole-table old new h f =
-    let e = on-written gross (length old) refl refl (le-ltb (length old) 432 h) in
-    record { answer = e; rows = subst (λ (a : BicycleAnswer). RowsIn a gross old new) e f }
+    let e = on-written code72 (length old) refl refl (le-ltb (length old) 432 h) in
+    record { answer = e; rows = subst (λ (a : BicycleAnswer). RowsIn a code72 old new) e f }
