@@ -1,4 +1,6 @@
 // Bicycle codes from their sizes and terms (document 02, request c).
+#![tactic(auto)]
+
 mod table;
 
 ghost use Rattle.std.specs.Prelude.{◌≡◌, [], ◌∷◌, ◌+◌, ◌*◌, ◌/◌, ◌%◌, ◌≤◌, ◌<◌, length};
@@ -10,14 +12,14 @@ ghost use Rattle.bicycle_codes.specs.Writing.{three, Small, Shifts, back_of, bac
 pub use table::write_72;
 
 // A term (a, b).
-#[derive(Drop)]
+#[derive(Clone, Copy)]
 pub struct Term {
     pub a: u16,
     pub b: u16,
 }
 
 // A list of three terms.
-#[derive(Drop)]
+#[derive(Clone, Copy)]
 pub struct Terms {
     pub p: Term,
     pub q: Term,
@@ -25,7 +27,7 @@ pub struct Terms {
 }
 
 // Two sizes and two lists of terms.
-#[derive(Drop)]
+#[derive(Clone, Copy)]
 pub struct Bicycle {
     pub l: u16,
     pub m: u16,
@@ -34,7 +36,7 @@ pub struct Bicycle {
 }
 
 // Why no rows are written.
-#[derive(Drop)]
+#[derive(Clone, Copy)]
 pub enum BicycleRefusal {
     Grid,
     Term,
@@ -42,14 +44,14 @@ pub enum BicycleRefusal {
 }
 
 // The answer: a refusal, or that the rows were written.
-#[derive(Drop)]
+#[derive(Clone, Copy)]
 pub enum BicycleAnswer {
     Refused(BicycleRefusal),
     Written,
 }
 
 // Three numbers in ascending order.
-#[derive(Drop)]
+#[derive(Clone, Copy)]
 struct Three {
     low: u16,
     mid: u16,

@@ -45,14 +45,14 @@ module _ (f : ℕ → ℕ → ℕ) (g : Bool → Bool → Bool) (shift : (a b k 
   unfolding bit
   bitwise a b k = ap (λ (x : ℕ). eqb (x % 2) 1) (shift a b k) ∙ digit (a / 2 ^ k) (b / 2 ^ k)
 
-pub bit_xor : (a b k : ℕ) → bit (bit_xor a b) k ≡ bit a k ⊕ bit b k
-bit_xor = bitwise bit_xor ◌⊕◌ xor_shr xor_mod refl refl refl refl
+pub bit-bit_xor : (a b k : ℕ) → bit (bit_xor a b) k ≡ bit a k ⊕ bit b k
+bit-bit_xor = bitwise bit_xor ◌⊕◌ xor_shr xor_mod refl refl refl refl
 
-pub bit_or : (a b k : ℕ) → bit (bit_or a b) k ≡ (bit a k || bit b k)
-bit_or = bitwise bit_or ◌||◌ or_shr or_mod refl refl refl refl
+pub bit-bit_or : (a b k : ℕ) → bit (bit_or a b) k ≡ (bit a k || bit b k)
+bit-bit_or = bitwise bit_or ◌||◌ or_shr or_mod refl refl refl refl
 
-pub bit_and : (a b k : ℕ) → bit (bit_and a b) k ≡ (bit a k && bit b k)
-bit_and = bitwise bit_and ◌&&◌ and_shr and_mod refl refl refl refl
+pub bit-bit_and : (a b k : ℕ) → bit (bit_and a b) k ≡ (bit a k && bit b k)
+bit-bit_and = bitwise bit_and ◌&&◌ and_shr and_mod refl refl refl refl
 
 pub bit_zero : (k : ℕ) → bit 0 k ≡ false
 unfolding bit
@@ -101,10 +101,10 @@ one_shl k h = shl_exact 1 k 64 (lit< tt) (omega arith) ∙ one-mul (2 ^ k)
 
 -- The code's `x | (1 << g)` and `x ^ (1 << g)`.
 pub bit_set : (x g k : ℕ) → g < 64 → bit (bit_or x (1 * 2 ^ g % 2 ^ 64)) k ≡ (bit x k || eqb g k)
-bit_set x g k h = rw (one_shl g h) (bit_or x (2 ^ g) k ∙ ap (λ (b : Bool). bit x k || b) (bit_pow g k))
+bit_set x g k h = rw (one_shl g h) (bit-bit_or x (2 ^ g) k ∙ ap (λ (b : Bool). bit x k || b) (bit_pow g k))
 
 pub bit_flipped : (x g k : ℕ) → g < 64 → bit (bit_xor x (1 * 2 ^ g % 2 ^ 64)) k ≡ bit x k ⊕ eqb g k
-bit_flipped x g k h = rw (one_shl g h) (bit_xor x (2 ^ g) k ∙ ap (λ (b : Bool). bit x k ⊕ b) (bit_pow g k))
+bit_flipped x g k h = rw (one_shl g h) (bit-bit_xor x (2 ^ g) k ∙ ap (λ (b : Bool). bit x k ⊕ b) (bit_pow g k))
 
 -- Numbers whose bits lie in one word are told by their places in it.
 pub same_digit : (q c : ℕ) → c / 64 ≡ q / 64 → eqb (q % 64) (c % 64) ≡ eqb q c

@@ -1,4 +1,6 @@
 // Sets of numbers below 512 in a list of 64-bit words: 8 words a set, a bit for each number.
+#![tactic(auto)]
+
 ghost use Rattle.bitsets.specs.Bitsets.{NextIn, Flipped};
 
 // The lowest number of set `s` from `from` on, below `end`; `end` if there is none. Past the list no number is in a set.

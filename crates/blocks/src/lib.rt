@@ -1,4 +1,6 @@
 // A block of input, a buffer of output at a time.
+#![tactic(auto)]
+
 ghost use Rattle.std.specs.Prelude.{false, ◌≤◌, length};
 ghost use Rattle.claim.specs.Calls.{passed};
 ghost use Rattle.cutting.specs.Room.{is_full};
@@ -11,7 +13,7 @@ use taking::Progress;
 
 // How far a block is done. taken: the bytes taken. next: those of the next record, 0 where none is to be taken. over: no record follows,
 // here or in a later block.
-#[derive(Drop)]
+#[derive(Clone, Copy)]
 pub struct Block {
     pub state: State,
     pub tally: Tally,

@@ -1,4 +1,6 @@
 // A caller of the stream in another crate: it goes by the stream's one claim about whole lists of calls.
+#![tactic(auto)]
+
 ghost use Rattle.records.specs.Lists.{held, six_of, lent_of};
 ghost use Rattle.caller.specs.TwoRecords.{TwoRecords};
 

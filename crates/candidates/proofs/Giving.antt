@@ -15,7 +15,7 @@ use lib.Pow.{pow_mono}
 use Rattle.binary.specs.Bits.{◌⊕◌}
 use Rattle.binary.specs.Words.{bit}
 use Rattle.binary.proofs.Bits.{bit as cases, never, &&_true, or_false}
-use Rattle.binary.proofs.WordBits.{bit_and, one_shl}
+use Rattle.binary.proofs.WordBits.{bit-bit_and, one_shl}
 use Rattle.binary.proofs.NumberBits.{bit_next, odd_first, odd_next, ones_odd, ones_none}
 use Rattle.lists.specs.Filled.{Filled}
 use Rattle.machine.specs.Words.{finished?}
@@ -61,7 +61,7 @@ mask_value live c forms q few l =
     small = rw (pow-succ' 2 live) (omega arith)
 
     each : (k : ℕ) → k < suc live → bit (bit_and word mask) k ≡ (form_of forms q k && bit mask k)
-    each k i = bit_and word mask k ∙ ap (λ (b : Bool). b && bit mask k) (sym (form_first forms q k (omega arith)))
+    each k i = bit-bit_and word mask k ∙ ap (λ (b : Bool). b && bit mask k) (sym (form_first forms q k (omega arith)))
 
 ----------------------------------------------------------------------
 -- The tests

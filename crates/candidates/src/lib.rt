@@ -1,4 +1,6 @@
 // A candidate of a half: what its forms give with its live guesses set to the bits of a number.
+#![tactic(auto)]
+
 ghost use Rattle.std.specs.Prelude.{◌≡◌, not, ◌||◌, ◌+◌, ◌*◌, ◌%◌, ◌^◌, ◌≤◌, ◌<◌, leb, ltb, length, get_or};
 ghost use Rattle.std.specs.Int.Bits.{bit_and};
 ghost use Rattle.std.specs.Int.Count.{ones};
@@ -62,7 +64,7 @@ fn parity(word: u64) -> u8
 // For each qubit the parity of the bits of its form that are in the mask. With at most 8 live guesses these are in its first word.
 fn write(n: usize, mask: u64, forms: &[u64], list: &mut [u8])
     requires n_in_bounds { 4 * n ≤ length forms.now }
-    requires* n_bound { do ⌜ n ≤ (← ⟦list.len()⟧) ⌝ }
+    requires n_bound { n ≤ length list.old }
     ensures { Filled (λ q. ones (bit_and (get_or forms.now (4 * q) 0) mask) % 2) n list.old list.new }
 {
     let mut q: usize = 0;

@@ -9,7 +9,7 @@ use lib.Bits.{bit_and, bit_or}
 use lib.ListN.{get_or}
 use Rattle.binary.specs.Words.{bit}
 use Rattle.binary.proofs.Bits as laws
-use Rattle.binary.proofs.WordBits.{order, bit_or, bit_and, bit_zero}
+use Rattle.binary.proofs.WordBits.{order, bit-bit_or, bit-bit_and, bit_zero}
 use Rattle.columns.specs.Planes.{planes}
 use Rattle.choosing.specs.Choosing.{Tall}
 
@@ -26,10 +26,10 @@ tall_more m at e r t b p low high none =
     (order p e)
   where
     neither : (bit r b || bit (get_or m (at + e) 0) b) ≡ false
-    neither = sym (bit_or r (get_or m (at + e) 0) b) ∙ none
+    neither = sym (bit-bit_or r (get_or m (at + e) 0) b) ∙ none
 
 -- A word with no tall column.
 pub none_tall : (m : List ℕ) (at word r : ℕ) → Tall at 10 m r → bit_and word r ≡ 0
     → (b : ℕ) → bit word b ≡ true → (p : ℕ) → 4 ≤ p → p < 10 → planes m at b p ≡ false
 none_tall m at word r t none b has p low high =
-    t b p low high (laws.bit (bit r b) (λ i. laws.never (laws.and_in has i) (sym (bit_and word r b) ∙ ap (λ (x : ℕ). bit x b) none ∙ bit_zero b)) (λ i. i))
+    t b p low high (laws.bit (bit r b) (λ i. laws.never (laws.and_in has i) (sym (bit-bit_and word r b) ∙ ap (λ (x : ℕ). bit x b) none ∙ bit_zero b)) (λ i. i))

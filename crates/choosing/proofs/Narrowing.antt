@@ -12,7 +12,7 @@ use lib.ListN.{get_or}
 use Rattle.binary.specs.Bits.{◌⊕◌}
 use Rattle.binary.specs.Words.{bit}
 use Rattle.binary.proofs.Bits as laws
-use Rattle.binary.proofs.WordBits.{bit_xor, bit_and, bit_zero}
+use Rattle.binary.proofs.WordBits.{bit-bit_xor, bit-bit_and, bit_zero}
 use Rattle.bitsets.proofs.Lowest.{zeros_below, one_after, zeros_few}
 use Rattle.columns.specs.Planes.{planes}
 use Rattle.choosing.specs.Choosing.{Least}
@@ -57,7 +57,7 @@ module _ (m : List ℕ) (at word mask rows p q : ℕ) (next : q + 1 ≡ p) (few 
   short_bit : (b : ℕ) → bit short b ≡ bit mask b ⊕ (bit mask b && planes m at b q)
   unfolding planes
   short_bit b =
-      bit_xor mask (bit_and mask (get_or m (at + q) 0)) b ∙ ap (λ (x : Bool). bit mask b ⊕ x) (bit_and mask (get_or m (at + q) 0) b)
+      bit-bit_xor mask (bit_and mask (get_or m (at + q) 0)) b ∙ ap (λ (x : Bool). bit mask b ⊕ x) (bit-bit_and mask (get_or m (at + q) 0) b)
 
   less : (x y : Bool) → x ⊕ (x && y) ≡ true → (x ≡ true) × (y ≡ false)
   less true true e = laws.never refl (sym e)

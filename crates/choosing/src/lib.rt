@@ -1,4 +1,6 @@
 // The shortest untaken column: the one with the fewest rows in it, the lowest of equals.
+#![tactic(auto)]
+
 ghost use Rattle.std.specs.Prelude.{◌≡◌, ◌+◌, ◌≤◌, ◌<◌, length};
 ghost use Rattle.choosing.specs.Choosing.{room?, Tall, Least, ShortestOf, Takes};
 
@@ -8,7 +10,7 @@ const PLANES: usize = 8192;
 const UNTAKEN: usize = 8448;
 
 // An untaken column, and how many rows have it: 1,024 where no column is untaken.
-#[derive(Drop)]
+#[derive(Clone, Copy)]
 pub struct Shortest {
     pub column: usize,
     pub rows: usize,

@@ -1,4 +1,6 @@
 // Closed rows taken up.
+#![tactic(auto)]
+
 ghost use Rattle.std.specs.Prelude.{◌≡◌, ◌+◌, ◌*◌, ◌≤◌, ◌<◌, length};
 ghost use Rattle.scans.specs.Rows.{check_at};
 ghost use Rattle.closing.specs.Closing.{TookIf, ClosingRows, enough?, ClosedRows, LitClosed};

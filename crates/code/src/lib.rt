@@ -1,26 +1,28 @@
 // The code: its rows in lent lists, end to end, and the tests of one row.
+#![tactic(auto)]
+
 ghost use Rattle.std.specs.Prelude.{◌≡◌, ◌+◌, ◌<◌, ◌≤◌, length, get_or};
 ghost use Rattle.code.specs.Lists.{start_of, row_at};
 ghost use Rattle.code.specs.Push.{written, Pushed};
 ghost use Rattle.code.specs.Tests.{ascending?};
 
 // A qubit's number.
-#[derive(Drop)]
+#[derive(Clone, Copy)]
 pub struct Qubit(pub u16);
 
 // A row's place among all rows: the X rows from 0 on, then the Z rows.
-#[derive(Drop)]
+#[derive(Clone, Copy)]
 pub struct Row(pub u16);
 
 // Rows that follow one another: the first and how many they are.
-#[derive(Drop)]
+#[derive(Clone, Copy)]
 pub struct Rows {
     pub first: Row,
     pub count: u16,
 }
 
 // A row's number within its kind, as records give it: the X rows and the Z rows both count from 0.
-#[derive(Drop)]
+#[derive(Clone, Copy)]
 pub struct KindRow(pub u16);
 
 // An element as an index, with its bound.

@@ -1,4 +1,6 @@
 // Whether rows commute: each shares an even number of qubits with each of the other kind.
+#![tactic(auto)]
+
 ghost use Rattle.std.specs.Prelude.{◌≡◌, length};
 ghost use Rattle.binary.specs.Bits.{◌⊕◌};
 ghost use Rattle.binary.specs.Meaning.{odd};

@@ -1,4 +1,6 @@
 // Counts of a run.
+#![tactic(auto)]
+
 ghost use Rattle.std.specs.Prelude.{◌≡◌, cond, eqb};
 ghost use Rattle.records.specs.Table.{refusal_number};
 ghost use Rattle.counts.specs.Counts.{total, refusal_more, code_more, decode_more, record_more, tallied};
@@ -7,7 +9,7 @@ use records::{Answer, Refusal};
 
 // The bytes and records taken, the codes completed, the decodes reported and the records refused. last: the number of the last refusal, 0
 // where there was none. more: how many refusals of that number followed the first one of its run.
-#[derive(Drop)]
+#[derive(Clone, Copy)]
 pub struct Tally {
     pub bytes: u64,
     pub records: u64,

@@ -1,4 +1,6 @@
 // Records cut out of bytes: how many bytes the next one has, and where they end.
+#![tactic(auto)]
+
 ghost use Rattle.std.specs.Prelude.{◌≡◌, cond, drop};
 ghost use Rattle.cutting.specs.Cutting.{next_of, is_last};
 ghost use Rattle.cutting.specs.Room.{is_full};

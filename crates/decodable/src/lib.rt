@@ -1,4 +1,6 @@
 // Whether a decode is refused: its lists and its tests.
+#![tactic(auto)]
+
 ghost use Rattle.std.specs.Prelude.{◌≡◌};
 ghost use Rattle.records.specs.Lists.{held, six_of, lent_of, short_half};
 ghost use Rattle.decodable.specs.Tests.{lacking?, test_of};
@@ -8,7 +10,7 @@ use rules::{codeless, in_range, short_lists};
 use states::refused;
 
 // Whether a decode is refused.
-#[derive(Drop)]
+#[derive(Clone, Copy)]
 pub enum Test {
     Passed,
     Failed(Reply),

@@ -1,4 +1,6 @@
 // The record that decodes a shot.
+#![tactic(auto)]
+
 ghost use Rattle.std.specs.Prelude.{◌≡◌, ◌≤◌, length};
 ghost use Rattle.records.specs.Records.{report};
 ghost use Rattle.records.specs.Lists.{held, six_of, lent_of};

@@ -1,4 +1,6 @@
 // What is kept of a half's rows, made from the marks.
+#![tactic(auto)]
+
 ghost use Rattle.std.specs.Prelude.{◌≡◌, List, ℕ, suc, ◌+◌, ◌≤◌, ◌<◌, length};
 ghost use Rattle.filling.specs.Filling.{Beyond, Emptied, RowAdded, KeptTo, RowPut, RowsPut, QubitKept, QubitsKept, enough?, Fills};
 

@@ -16,7 +16,7 @@ use Rattle.binary.specs.Bits.{◌⊕◌}
 use Rattle.binary.specs.Meaning.{Check}
 use Rattle.binary.specs.Words.{bit}
 use Rattle.binary.proofs.Bits.{bit as cases, ⊕_false, &&_false}
-use Rattle.binary.proofs.WordBits.{order, bit_xor}
+use Rattle.binary.proofs.WordBits.{order, bit-bit_xor}
 use Rattle.binary.proofs.NumberBits.{bit_next}
 use Rattle.machine.specs.Machine.{Form, replace}
 use Rattle.forms.specs.Words.{Words, words_in, side_in}
@@ -76,7 +76,7 @@ module _ (q v k u side : ℕ) (forms₀ forms : List ℕ) (a : v < 4) (b : u < 4
       changed_turn q _ forms₀ forms _ so (length-set forms _ _) (set_beside forms q u _ b)
       (fun_ext λ t. fun_ext λ j. set_words forms q u _ b inside t j
       ∙ cases (eqb t u)
-      (λ e. rw (e, words_in_lem forms q v k a, has) (bit_xor (get_or forms (4 * q + u) 0) side j ∙ ap (◌⊕ bit side j) (sym (words_in_lem forms q u j b) ∙ at t j e)))
+      (λ e. rw (e, words_in_lem forms q v k a, has) (bit-bit_xor (get_or forms (4 * q + u) 0) side j ∙ ap (◌⊕ bit side j) (sym (words_in_lem forms q u j b) ∙ at t j e)))
       (λ e. rw e (sym (⊕_false (words_in forms q t j)))))
     where
       at : (t j : ℕ) → eqb t u ≡ true → words_in forms q u j ≡ words_in forms q t j
@@ -176,7 +176,7 @@ module _ (q u : ℕ) (forms₀ forms : List ℕ) (a : 0 < u) (b : u < 4) (inside
   lower_bits : (j : ℕ) → bit lower j ≡ words_in forms q (u - 1) j ⊕ (eqb j 63 && words_in forms q u 0)
   unfolding lower word
   lower_bits j =
-      bit_xor (get_or forms (4 * q + (u - 1)) 0) (word % 2 * 2 ^ 63 % 2 ^ 64) j
+      bit-bit_xor (get_or forms (4 * q + (u - 1)) 0) (word % 2 * 2 ^ 63 % 2 ^ 64) j
       ∙ ap₂ ◌⊕◌ (sym (words_in_lem forms q (u - 1) j (omega arith))) (carried word j ∙ ap (eqb j 63 &&◌) (sym (words_in_lem forms q u 0 b)))
 
   moved_words : (t j : ℕ) → words_in (set lowered (4 * q + u) (word / 2 ^ 1)) q t j ≡ moving_down u (words_in forms q) t j

@@ -16,7 +16,7 @@ use Rattle.binary.specs.Meaning.{Row, Check, odd}
 use Rattle.binary.specs.Words.{bit}
 use Rattle.binary.proofs.Bits.{⊕_false, ⊕_assoc, &&_false}
 use Rattle.binary.proofs.Rows.{odd_none}
-use Rattle.binary.proofs.WordBits.{order, bit_xor, bit_zero, bit_one, bit_past, both_digits, digits}
+use Rattle.binary.proofs.WordBits.{order, bit-bit_xor, bit_zero, bit_one, bit_past, both_digits, digits}
 use Rattle.machine.specs.Machine.{side}
 use Rattle.machine.specs.Lists.{form_of}
 use Rattle.machine.proofs.FormWords.{form_in, form_out}
@@ -121,7 +121,7 @@ module _ (n : ℕ) (forms row : List ℕ) (lit : Bool) (v word : ℕ) where
         → SideLeft n forms (check lit row) v (bit_xor word form) (i + 1)
     side_turn form within h e =
         record {
-          bits = λ j. rw (add-one i) (ap (◌⊕ rest j) (bit_xor word form j ∙ ap (bit word j ⊕◌) (ap (λ (x : ℕ). bit x j) e ∙ word_bits n forms v within q j))
+          bits = λ j. rw (add-one i) (ap (◌⊕ rest j) (bit-bit_xor word form j ∙ ap (bit word j ⊕◌) (ap (λ (x : ℕ). bit x j) e ∙ word_bits n forms v within q j))
               ∙ ⊕_assoc (bit word j) (word_at n forms v j q) (rest j)
               ∙ sym (ap (λ (l : Row). bit word j ⊕ odd (word_at n forms v j) l) (drop-cons row i 0 h)) ∙ left.bits j);
         }

@@ -13,7 +13,7 @@ use lib.Bits.{bit_or, bit_xor, or_shifted}
 use Rattle.binary.specs.Bits.{◌⊕◌}
 use Rattle.binary.specs.Words.{bit}
 use Rattle.binary.proofs.Bits.{⊕_false, &&_false, &&_true, eqb_sym}
-use Rattle.binary.proofs.WordBits.{order, parity, bit_zero, bit_pow, bit_xor, bit_past, bit_shr, bit_mod, one_shl, top_set}
+use Rattle.binary.proofs.WordBits.{order, parity, bit_zero, bit_pow, bit-bit_xor, bit_past, bit_shr, bit_mod, one_shl, top_set}
 use Rattle.machine.specs.Machine.{Form, without, replace}
 use Rattle.forms.specs.Sides.{NewestBit}
 use Rattle.machine.proofs.TakingUp.{without_below, without_above}
@@ -72,7 +72,7 @@ module _ (f k side : ℕ) where
   pub replaced_with : (r : ℕ) → f / 2 ^ k % 2 ≡ 1 → ((j : ℕ) → bit r j ≡ without k (bit (bit_xor f side)) j)
       → (j : ℕ) → bit r j ≡ replace k (bit side) (bit f) j
   replaced_with r t h j =
-      h j ∙ ap (λ (g : Form). without k g j) (fun_ext λ i. bit_xor f side i ∙ rw (odd_bit f k t))
+      h j ∙ ap (λ (g : Form). without k g j) (fun_ext λ i. bit-bit_xor f side i ∙ rw (odd_bit f k t))
 
   replaced_none : bit f k ≡ false → (j : ℕ) → without k (bit f) j ≡ replace k (bit side) (bit f) j
   replaced_none t j = ap (λ (g : Form). without k g j) (fun_ext λ i. sym (⊕_false (bit f i)) ∙ rw t)

@@ -1,4 +1,6 @@
 // Forms as four 64-bit words each: a row taken up, a qubit's form put.
+#![tactic(auto)]
+
 ghost use Rattle.forms.specs.Forms.{TakesUp, PutsSide, PutsGuess};
 ghost use Rattle.forms.specs.Sides.{check};
 
@@ -8,14 +10,14 @@ mod sides;
 use code::Qubit;
 
 // What taking up rows comes to: the half ends in none, or so many guesses are live.
-#[derive(Drop)]
+#[derive(Clone, Copy)]
 pub enum Taken {
     Failed,
     Live(u16),
 }
 
 // A word of a side, with its number.
-#[derive(Drop)]
+#[derive(Clone, Copy)]
 struct Part {
     number: usize,
     word: u64,

@@ -1,5 +1,7 @@
 // The guess rule: the open qubit on most rows that have exactly two open qubits; equals are settled by most rows of the half, then by the lowest number. The work
 // list has one number for each qubit from element 9216 on, its weight: 1024 for each such row on it, and 1 for each row.
+#![tactic(auto)]
+
 ghost use Rattle.std.specs.Prelude.{◌≡◌, ◌+◌, ◌≤◌, ◌<◌, length};
 ghost use Rattle.machine.specs.Machine.{is_open, best};
 ghost use Rattle.machine.specs.Lists.{view};
@@ -18,7 +20,7 @@ const PAIR: u64 = 1024;
 const MODULUS: u64 = 4294967296;
 
 // The qubit that the guess rule names.
-#[derive(Drop)]
+#[derive(Clone, Copy)]
 pub enum Choice {
     NoQubit,
     Named(Qubit),

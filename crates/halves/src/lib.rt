@@ -1,4 +1,6 @@
 // The decode of a half of a shot.
+#![tactic(auto)]
+
 ghost use Rattle.halves.specs.Decode.{Decodes};
 
 mod decode;
@@ -9,7 +11,7 @@ use machine::HalfReport;
 use turns::RunAnswer;
 
 // The answer to the decode of a half.
-#[derive(Drop)]
+#[derive(Clone, Copy)]
 pub enum HalfAnswer {
     Refused,
     Decoded(HalfReport),

@@ -1,4 +1,6 @@
 // The rows on each qubit, kept with the code: 15 elements for each qubit, behind the ends of the rows.
+#![tactic(auto)]
+
 ghost use Rattle.std.specs.Prelude.{◌≡◌, cond, eqb, set};
 ghost use Rattle.incidence.specs.Incidence.{note_on, note_all, emptied, noted};
 

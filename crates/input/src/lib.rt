@@ -1,11 +1,13 @@
 // Standard input, read to a block behind the bytes that are held there.
+#![tactic(auto)]
+
 ghost use Rattle.std.specs.Prelude.{◌≡◌, ◌-◌, ◌≤◌, length, take};
 ghost use Rattle.input.specs.Reading.{Attempt, Refills, Keeps};
 
 use libc::STDIN_FILENO;
 
 // What one read gave. again: it gave nothing and is to be tried again. error: errno where it failed, and 0 else.
-#[derive(Drop)]
+#[derive(Clone, Copy)]
 struct Got {
     count: usize,
     again: bool,
@@ -13,7 +15,7 @@ struct Got {
 }
 
 // How many bytes there are then. ended: no more come. error: errno where that is since a read failed, and 0 else. reads: how many were made.
-#[derive(Drop)]
+#[derive(Clone, Copy)]
 pub struct Refilled {
     pub end: usize,
     pub ended: bool,

@@ -1,5 +1,7 @@
 // What is kept of a half's rows while it is decoded: of each row the number of its open qubits, the dangling rows and how many they are, and the rows on
 // each open qubit.
+#![tactic(auto)]
+
 ghost use Rattle.std.specs.Prelude.{◌≡◌, ◌+◌, ◌≤◌, ◌<◌, length};
 ghost use Rattle.kept.specs.Kept.{Changes, Lowered, Raised, dangling_word, Finds, LoweredRows, Lowest};
 

@@ -1,4 +1,6 @@
 // The lines of an answer, put to a list of bytes.
+#![tactic(auto)]
+
 mod halves;
 
 ghost use Rattle.std.specs.Prelude.{◌≡◌, ◌+◌, leb, length};
@@ -10,7 +12,7 @@ use records::{Answer, Refusal, Sizes};
 use text::{put_byte, put_number, put_text};
 
 // Where a text ends. room: whether there was room for it; without, nothing was put.
-#[derive(Drop)]
+#[derive(Clone, Copy)]
 pub struct Put {
     pub end: usize,
     pub room: bool,

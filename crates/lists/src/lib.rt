@@ -1,4 +1,6 @@
 // Lent lists: elements cleared and copied.
+#![tactic(auto)]
+
 ghost use Rattle.std.specs.Prelude.{◌≡◌, ℕ, ◌≤◌, ◌<◌};
 ghost use Rattle.lists.specs.Cleared.{Cleared};
 ghost use Rattle.lists.specs.Copied.{apart?, Copied};

@@ -1,4 +1,6 @@
 // The records that load a code: its sizes, then its rows.
+#![tactic(auto)]
+
 ghost use Rattle.std.specs.Prelude.{◌≡◌, true, false, ◌&&◌, ◌+◌, ◌<◌};
 ghost use Rattle.code.specs.Tests.{ascending?};
 ghost use Rattle.records.specs.Records.{pauli};

@@ -1,4 +1,6 @@
 // The record of logical qubits: whether the rows encode as many as it says.
+#![tactic(auto)]
+
 ghost use Rattle.std.specs.Prelude.{◌≡◌, ltb, ◌≤◌};
 ghost use Rattle.records.specs.declared.Answer.TheVariants.{Taken};
 ghost use Rattle.logical.specs.Logical.{Few, RankOf, RanksOf, Tests};

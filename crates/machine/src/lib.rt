@@ -1,9 +1,11 @@
 // The turn machine, as document 01 means it (specs/): the words of a half and its report.
+#![tactic(auto)]
+
 ghost use Rattle.std.specs.Prelude.{◌≡◌};
 ghost use Rattle.machine.specs.Words.{finished?};
 
 // The five words in which a decode ends for each half.
-#[derive(Drop)]
+#[derive(Clone, Copy)]
 pub enum Word {
     Certain,
     Unsure,
@@ -13,7 +15,7 @@ pub enum Word {
 }
 
 // What is reported of a half: the word and the four counts.
-#[derive(Drop)]
+#[derive(Clone, Copy)]
 pub struct HalfReport {
     pub word: Word,
     pub fixed: u16,

@@ -13,7 +13,7 @@ use lib.Seq.{get_or-set_same, get_or-set_other}
 use Rattle.binary.specs.Bits.{◌⊕◌}
 use Rattle.binary.specs.Words.{bit}
 use Rattle.binary.proofs.Bits.{below_out}
-use Rattle.binary.proofs.WordBits.{bit_xor, bit_and, bit_zero}
+use Rattle.binary.proofs.WordBits.{bit-bit_xor, bit-bit_and, bit_zero}
 use Rattle.columns.specs.Planes.{planes, number_at, Carried, number}
 use Rattle.binary.proofs.Weights.{weigh_change}
 use Rattle.columns.proofs.Numbers.{number_at_lem}
@@ -48,7 +48,7 @@ plane_changed at p carry m room e b h =
     weigh_change (λ q. 2 ^ q) e p (planes m at b) (planes (set m (at + p) v) at b) h
     (λ q n l. ap (λ (x : ℕ). bit x b) (get_or-set_other m (at + p) (at + q) v 0 (λ e. n (omega arith))))
     ∙ ap (λ (x : Bool). number_at m at b e + cond x (2 ^ p) 0)
-    (ap (λ (x : ℕ). bit x b) (get_or-set_same m (at + p) v 0 room) ∙ bit_xor (get_or m (at + p) 0) carry b)
+    (ap (λ (x : ℕ). bit x b) (get_or-set_same m (at + p) v 0 room) ∙ bit-bit_xor (get_or m (at + p) 0) carry b)
   where
     v : ℕ
     v = bit_xor (get_or m (at + p) 0) carry
@@ -58,7 +58,7 @@ pub rippled_more : (at from p first other : ℕ) (m₀ m : List ℕ) (carry : �
 rippled_more at from p first other m₀ m carry s low room =
     record {
       long = length-set m (at + p) v ∙ s.long;
-      sums = λ e b h. rw (bit_and carry (bit_xor old other) b, bit_xor old other b)
+      sums = λ e b h. rw (bit-bit_and carry (bit_xor old other) b, bit-bit_xor old other b)
           (carried_more (bit old b) (bit carry b) (bit other b) (2 ^ p) (2 ^ (p + 1)) _ _ _ _ (rw add-one (pow-succ' 2 p)) (s.sums e b (omega arith))
           (plane_changed at p carry m room e b (omega arith)));
       kept = λ k h. get_or-set_other m (at + p) k v 0 (λ e. ⊎_elim (λ (l : k < at + from). omega arith) (λ (l : at + (p + 1) ≤ k). omega arith) h)

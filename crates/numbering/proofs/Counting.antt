@@ -13,7 +13,7 @@ use lib.ListN.{length, length-set, get_or, set}
 use lib.Seq.{get_or-set_same, get_or-set_other}
 use Rattle.binary.specs.Words.{bit}
 use Rattle.binary.proofs.Bits.{and_in, and_out, never}
-use Rattle.binary.proofs.WordBits.{order, bit_and, bit_xor}
+use Rattle.binary.proofs.WordBits.{order, bit-bit_and, bit-bit_xor}
 use Rattle.packing.specs.Packed.{cell}
 use Rattle.packing.proofs.Rows.{apart, few_words}
 use Rattle.columns.specs.Planes.{planes, Carried, number}
@@ -83,7 +83,7 @@ module _ (weight : ℕ) (down into : ℕ → Bool) (m₀ : List ℕ) where
 pub untaken_bits : (k : ℕ) (m₀ m : List ℕ) → Stays m₀ m → (word b : ℕ) → b < 64
     → bit (bit_and word (get_or m (8448 + k) 0)) b ≡ (bit word b && untaken m₀ (64 * k + b))
 untaken_bits k m₀ m s word b h =
-    bit_and word (get_or m (8448 + k) 0) b ∙ ap (bit word b &&◌) (ap (λ (x : ℕ). bit x b) (s (8448 + k) (omega arith)) ∙ sym (untaken_at m₀ k b h))
+    bit-bit_and word (get_or m (8448 + k) 0) b ∙ ap (bit word b &&◌) (ap (λ (x : ℕ). bit x b) (s (8448 + k) (omega arith)) ∙ sym (untaken_at m₀ k b h))
 
 pub cell_bit : (m : List ℕ) (w i k b : ℕ) → b < 64 → bit (get_or m (i * w + k) 0) b ≡ cell m w i (64 * k + b)
 unfolding cell
@@ -192,7 +192,7 @@ module _ (w from to k : ℕ) (m₀ m : List ℕ) (wide : w ≤ 16) (low : from *
       (λ b l x y. (
         refl,
         untaken_bits k m₀ m s.counting.stays (bit_and (get_or m (from * w + k) 0) (get_or m (to * w + k) 0)) b l
-            ∙ ap (◌&& untaken m₀ (64 * k + b)) (bit_and (get_or m (from * w + k) 0) (get_or m (to * w + k) 0) b ∙ ap₂ ◌&&◌ y x),
+            ∙ ap (◌&& untaken m₀ (64 * k + b)) (bit-bit_and (get_or m (from * w + k) 0) (get_or m (to * w + k) 0) b ∙ ap₂ ◌&&◌ y x),
       ))
 
 pub joined : (weight : ℕ) (down into : ℕ → Bool) (w from to : ℕ) (m m' : List ℕ) → Joining weight down into w from to w m m' → Joined weight down into w from to m m'
@@ -200,7 +200,7 @@ unfolding cell
 joined weight down into w from to m m' s =
     record {
       long = s.long;
-      cells = λ c h. ap (λ (x : ℕ). bit x (c % 64)) (s.words (c / 64) (omega arith)) ∙ bit_xor (get_or m (to * w + c / 64) 0) (get_or m (from * w + c / 64) 0) (c % 64);
+      cells = λ c h. ap (λ (x : ℕ). bit x (c % 64)) (s.words (c / 64) (omega arith)) ∙ bit-bit_xor (get_or m (to * w + c / 64) 0) (get_or m (from * w + c / 64) 0) (c % 64);
       kept = s.kept;
       stays = s.counting.stays;
       beyond = s.counting.later;

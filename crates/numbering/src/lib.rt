@@ -1,5 +1,7 @@
 // The number of rows that have each untaken column, kept as rows are added. The numbers lie in bit planes, a bit of 64 numbers to a word, so that a row
 // that is added changes 64 of them at once.
+#![tactic(auto)]
+
 ghost use Rattle.std.specs.Prelude.{◌≡◌, not, ◌&&◌, ◌+◌, ◌^◌, ◌≤◌, ◌<◌, ltb, length};
 ghost use Rattle.binary.specs.Words.{bit, listed};
 ghost use Rattle.numbering.specs.Numbering.{Rippled, Counted, inside?, RowsIn, Added, Merged, Adds, Merges, KnownWord, KnownSet, NumberedRow, NumberedRows, Starts};

@@ -1,4 +1,6 @@
 // Standard output: what it takes, and that it takes nothing more once a write has failed.
+#![tactic(auto)]
+
 ghost use Rattle.std.specs.Prelude.{◌≡◌, ◌≤◌, length};
 ghost use Rattle.output.specs.Writing.{passing, Step, Written, InTurn, Whole, Flush};
 
@@ -6,14 +8,14 @@ use counts::sum;
 use libc::STDOUT_FILENO;
 
 // How many bytes of a text are taken. failed: the others can't be written.
-#[derive(Drop)]
+#[derive(Clone, Copy)]
 struct Wrote {
     count: usize,
     failed: bool,
 }
 
 // What standard output has taken in the whole run: its bytes, and the records that they answer in full. failed: a write has failed.
-#[derive(Drop)]
+#[derive(Clone, Copy)]
 pub struct Output {
     pub bytes: u64,
     pub records: u64,

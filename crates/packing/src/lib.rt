@@ -1,4 +1,6 @@
 // Rows packed into the words of a lent list.
+#![tactic(auto)]
+
 ghost use Rattle.std.specs.Prelude.{◌≡◌, ◌≤◌, eqb, length};
 ghost use Rattle.binary.specs.Meaning.{has};
 ghost use Rattle.packing.specs.Packed.{words_for, Put};

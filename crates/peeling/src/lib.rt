@@ -1,4 +1,6 @@
 // Peeling without a look at any reading: whether it leaves nothing.
+#![tactic(auto)]
+
 ghost use Rattle.std.specs.Prelude.{◌≡◌, ◌+◌, ◌≤◌, length};
 ghost use Rattle.peeling.specs.Peeling.{OneStep, enough?, Peels};
 

@@ -1,4 +1,6 @@
 // States and replies as plain numbers, for a rack's own program in C or Rust.
+#![tactic(auto)]
+
 ghost use Rattle.std.specs.Prelude.{◌≡◌};
 ghost use Rattle.plain.specs.Plain.{phase_of, phase_number, state_of, plain_state, word_of, plain_half, no_half, unreported, plain_answer, plain_reply};
 
@@ -7,7 +9,7 @@ use records::{Answer, Phase, Reply, Report, Sizes, State};
 
 // What passes from call to call beside the lists: a fresh start's, or as the last reply has it.
 #[repr(C)]
-#[derive(Drop)]
+#[derive(Clone, Copy)]
 pub struct RackState {
     pub phase: u8,
     pub clash: u8,
@@ -22,7 +24,7 @@ pub struct RackState {
 
 // What is reported of a half; of an answer that is no report, zeros.
 #[repr(C)]
-#[derive(Drop)]
+#[derive(Clone, Copy)]
 pub struct RackHalf {
     pub word: u16,
     pub fixed: u16,
@@ -33,7 +35,7 @@ pub struct RackHalf {
 
 // What a call hands back: the state, the answer with the table's number of a refusal, and the halves of a report.
 #[repr(C)]
-#[derive(Drop)]
+#[derive(Clone, Copy)]
 pub struct RackReply {
     pub state: RackState,
     pub answer: u16,

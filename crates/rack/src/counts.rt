@@ -8,7 +8,7 @@ use window_meaning::{Counts, HalfCounts, WindowAnswer, WindowRefusal};
 
 // Of the halves of a kind among the last 256 reports: how many had each word, and the sums of turns, guesses and live.
 #[repr(C)]
-#[derive(Drop)]
+#[derive(Clone, Copy)]
 pub struct RackHalfCounts {
     pub certain: u32,
     pub unsure: u32,
@@ -22,7 +22,7 @@ pub struct RackHalfCounts {
 
 // The answer to a read of the window: the number of a refusal, or 0 and the counts; zeros after a refusal.
 #[repr(C)]
-#[derive(Drop)]
+#[derive(Clone, Copy)]
 pub struct RackCounts {
     pub refusal: u32,
     pub x: RackHalfCounts,

@@ -1,4 +1,6 @@
 // The calls for a rack's own program in C or Rust (include/rack.h): states, words and answers as plain numbers.
+#![tactic(auto)]
+
 mod candidate;
 pub mod counts;
 

@@ -1,4 +1,6 @@
 // A record's bytes, read: what they are, how long a record is, and the numbers of its body.
+#![tactic(auto)]
+
 mod bytes;
 mod shapes;
 
@@ -6,7 +8,7 @@ pub use bytes::{byte_at, number, qubits_of};
 pub use shapes::{is_decode, shape_of, whole_length};
 
 // What a record's bytes are: of no kind, not of its length, or of a kind; rows with whether they are X rows and their number of qubits.
-#[derive(Drop)]
+#[derive(Clone, Copy)]
 pub enum Shape {
     Unknown,
     Wrong,

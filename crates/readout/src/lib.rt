@@ -1,4 +1,6 @@
 // The records of a shot: a lost qubit, a lit row, an unread row.
+#![tactic(auto)]
+
 ghost use Rattle.std.specs.Prelude.{◌≡◌, cond, ◌+◌, ◌≤◌, set};
 ghost use Rattle.records.specs.Records.{pauli, lost};
 ghost use Rattle.readout.specs.Readout.{Begun, marked?, row_set, Marked, Adds};

@@ -1,11 +1,13 @@
 // Records, as document 01 means them (specs/): what a call hands over and hands back.
+#![tactic(auto)]
+
 use machine::HalfReport;
 
 // The version of the records, one more whenever what bytes mean changes.
 pub const VERSION: u16 = 8;
 
 // Why a record is refused (document 01, the table).
-#[derive(Drop)]
+#[derive(Clone, Copy)]
 pub enum Refusal {
     Unknown,
     Length,
@@ -22,7 +24,7 @@ pub enum Refusal {
 }
 
 // A code's sizes: qubits, X rows, Z rows.
-#[derive(Drop)]
+#[derive(Clone, Copy)]
 pub struct Sizes {
     pub n: u16,
     pub x: u16,
@@ -30,14 +32,14 @@ pub struct Sizes {
 }
 
 // What a decode reports of its two halves.
-#[derive(Drop)]
+#[derive(Clone, Copy)]
 pub struct Report {
     pub x: HalfReport,
     pub z: HalfReport,
 }
 
 // The answer to a record: a refusal, or that it was carried out; of the last row with the code's sizes, of a decode with its report.
-#[derive(Drop)]
+#[derive(Clone, Copy)]
 pub enum Answer {
     Refused(Refusal),
     Taken,
@@ -46,7 +48,7 @@ pub enum Answer {
 }
 
 // Whether there is a code: none, one that is loading, or one that is complete, with an open shot.
-#[derive(Drop)]
+#[derive(Clone, Copy)]
 pub enum Phase {
     Empty,
     Loading,
@@ -56,7 +58,7 @@ pub enum Phase {
 // What passes from call to call beside the lists: the sizes announced, the rows taken so far, whether some X and Z rows among them share an
 // odd number of qubits, whether the shot is spoiled, whether the shot is empty, whatever an earlier one left in its list, and how many reports have come since
 // the last accepted kind 1, after 511 again 256.
-#[derive(Drop)]
+#[derive(Clone, Copy)]
 pub struct State {
     pub phase: Phase,
     pub sizes: Sizes,
@@ -68,7 +70,7 @@ pub struct State {
 }
 
 // What a call hands back.
-#[derive(Drop)]
+#[derive(Clone, Copy)]
 pub struct Reply {
     pub state: State,
     pub answer: Answer,

@@ -1,4 +1,6 @@
 // What the kinds of record share: the numbers of refusals and words, and tests of sizes, states and lists.
+#![tactic(auto)]
+
 ghost use Rattle.std.specs.Prelude.{◌≡◌, length};
 ghost use Rattle.records.specs.Table.{refusal_number, in_range};
 ghost use Rattle.records.specs.Lists.{held, short_lists};

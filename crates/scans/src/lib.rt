@@ -1,4 +1,6 @@
 // A half's rows and marks read: whether a qubit is open, a row's qubits if it was read, its first open qubit, how many qubits have a mark.
+#![tactic(auto)]
+
 ghost use Rattle.std.specs.Prelude.{◌≡◌};
 ghost use Rattle.machine.specs.Machine.{is_open};
 ghost use Rattle.machine.specs.Lists.{view};

@@ -1,5 +1,7 @@
 // The search for the fixed qubits, in rows packed into the words of a lent list: the columns that are not lost are taken one by one, the shortest first, then
 // the lost ones ascending. A lost column that a row clears is a fixed qubit.
+#![tactic(auto)]
+
 ghost use Rattle.std.specs.Prelude.{◌≡◌, ◌+◌, ◌*◌, ◌≤◌, ◌<◌, length, get_or};
 ghost use Rattle.binary.specs.Words.{bit};
 ghost use Rattle.packing.specs.Packing.{RowIn};
@@ -11,13 +13,13 @@ ghost use Rattle.search.specs.Search.{ColumnIn, ColumnsIn, First, Leaves, Clears
 const ORDER: usize = 9216;
 
 // How many rows cleared a column that was not lost, and how many any column.
-#[derive(Drop)]
+#[derive(Clone, Copy)]
 pub struct Cleared {
     pub known: usize,
     pub all: usize,
 }
 
-#[derive(Drop)]
+#[derive(Clone, Copy)]
 pub enum Search {
     Short,
     Made(Cleared),

@@ -1,4 +1,6 @@
 // Reads records from standard input, and writes the lines of their answers to standard output.
+#![tactic(auto)]
+
 mod arguments;
 mod run;
 

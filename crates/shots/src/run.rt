@@ -11,7 +11,7 @@ use records::State;
 
 // What passes from block to block: the state, the counts, how many bytes are held at the front of the next one, and what is written.
 // last: the records are over. ended: no more bytes come. over: nothing more is read. error: errno where the last read failed, and 0 else.
-#[derive(Drop)]
+#[derive(Clone, Copy)]
 pub struct Between {
     state: State,
     tally: Tally,

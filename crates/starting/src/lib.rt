@@ -1,5 +1,7 @@
 // The start of a half: its marks, and what is kept of its rows over them. Peeling comes first, and the search for fixed qubits is made only where it
 // leaves a qubit. For a caller that peels by itself: the marks alone, with no qubit fixed, or by the search at once.
+#![tactic(auto)]
+
 ghost use Rattle.std.specs.Prelude.{◌≡◌, ◌+◌, ◌≤◌, length};
 ghost use Rattle.lists.specs.Filled.{Filled};
 ghost use Rattle.starting.specs.Starting.{open_mark, Saves, Restores, PeeledFirst, Searched, enough?, Starts, Opens, searchable?, Marks};
@@ -9,7 +11,7 @@ use code::Rows;
 // Each lost qubit is marked open, each other one not lost.
 fn start_marks(n: usize, lost: &[u8], marks: &mut [u8])
     requires n_in_bounds { n ≤ length lost.now }
-    requires* n_bound { do ⌜ n ≤ (← ⟦marks.len()⟧) ⌝ }
+    requires n_bound { n ≤ length marks.old }
     ensures { Filled (open_mark n lost.now) n marks.old marks.new }
 {
     let mut q: usize = 0;

@@ -1,4 +1,6 @@
 // The states that answers leave, from a fresh start on, and the answer that refuses.
+#![tactic(auto)]
+
 ghost use Rattle.std.specs.Prelude.{◌≡◌, cond};
 ghost use Rattle.records.specs.States.{fresh_state, dropped_of, spoiled_of, ended_of, opened_of, reported_of, left_by, saying};
 

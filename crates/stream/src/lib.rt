@@ -1,4 +1,6 @@
 // The stream of records: one call for each record, from a fresh start.
+#![tactic(auto)]
+
 mod take;
 
 ghost use Rattle.records.specs.Lists.{held, six_of, lent_of};

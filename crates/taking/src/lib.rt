@@ -1,4 +1,6 @@
 // The records of a block of input, one at a time.
+#![tactic(auto)]
+
 mod answering;
 
 ghost use Rattle.std.specs.Prelude.{◌≡◌, length};
@@ -11,7 +13,7 @@ use records::State;
 
 // How far a block is done. taken: the bytes of input taken. next: those of the next record, 0 where none is to be taken before what is put
 // is written. put: the bytes of output put. noted: the records that they answer. over: no record follows, here or in a later block.
-#[derive(Drop)]
+#[derive(Clone, Copy)]
 pub struct Progress {
     pub state: State,
     pub tally: Tally,

@@ -1,4 +1,6 @@
 // What standard error is told. Each line has room for its text; were one longer, its end would be left out.
+#![tactic(auto)]
+
 mod line;
 mod wants;
 

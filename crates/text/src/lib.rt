@@ -1,4 +1,6 @@
 // Text gathered in a list, behind what is put there already. What has no room there is left out.
+#![tactic(auto)]
+
 ghost use Rattle.std.specs.Prelude.{[], ◌∷◌};
 ghost use Rattle.text.specs.Text.{number, Puts};
 

@@ -1,5 +1,7 @@
 // The turns of a half up to the first guess, from the marks of a start: until then every turn is a peel, and every form a plain bit. What a peel asks is kept of each
 // row in three numbers, and no row's qubits are read.
+#![tactic(auto)]
+
 ghost use Rattle.std.specs.Prelude.{◌≡◌, ◌+◌, ◌*◌, ◌≤◌, length};
 ghost use Rattle.trying.specs.Trying.{enough?, Tried, Tries};
 
@@ -11,7 +13,7 @@ use code::Rows;
 use machine::HalfReport;
 
 // The answer of a try: nothing is known, so many turns lead where no row dangles and a qubit is left, or the report of the half, which is certain.
-#[derive(Drop)]
+#[derive(Clone, Copy)]
 pub enum TryAnswer {
     Unknown,
     Left(u16),
@@ -19,14 +21,14 @@ pub enum TryAnswer {
 }
 
 // How many qubits are open at the start, or that not all rows on an open qubit are listed.
-#[derive(Drop)]
+#[derive(Clone, Copy)]
 enum Opened {
     Unlisted,
     Open(u16),
 }
 
 // A turn made; or no row dangles; or the half may end in none, or lists were altered.
-#[derive(Drop)]
+#[derive(Clone, Copy)]
 enum Peel {
     Unknown,
     NoRow,

@@ -1,4 +1,6 @@
 // The turns of a half, from the marks of its start, or from where turns without a guess led.
+#![tactic(auto)]
+
 ghost use Rattle.std.specs.Prelude.{◌≡◌, length};
 ghost use Rattle.turns.specs.Runs.{enough?, Runs, GoesOn};
 
@@ -10,21 +12,21 @@ use forms::Taken;
 use machine::{HalfReport, Word};
 
 // The answer to the turns of a half: none were made, or the report of the half.
-#[derive(Drop)]
+#[derive(Clone, Copy)]
 pub enum RunAnswer {
     Refused,
     Over(HalfReport),
 }
 
 // A turn, with whether the weights are kept after it, or that the budget is spent.
-#[derive(Drop)]
+#[derive(Clone, Copy)]
 enum Move {
     Spent,
     Made(Taken, bool),
 }
 
 // How a half ended: the word, the turns made and the live guesses.
-#[derive(Drop)]
+#[derive(Clone, Copy)]
 struct Ended {
     word: Word,
     turns: u16,

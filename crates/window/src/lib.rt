@@ -1,4 +1,6 @@
 // The last 256 reports (document 02, request h): a report enters, and a read counts them.
+#![tactic(auto)]
+
 mod counting;
 
 ghost use Rattle.std.specs.Prelude.{◌≡◌, ◌+◌, ◌≤◌, ltb, length};

@@ -1,7 +1,8 @@
 // A read of the last 256 reports, as document 02 means it (specs/): the counts, and why they are refused.
+#![tactic(auto)]
 
 // Of the halves of a kind among the last 256 reports (document 02, request h): how many had each word, and the sums of turns, guesses and live.
-#[derive(Drop)]
+#[derive(Clone, Copy)]
 pub struct HalfCounts {
     pub certain: u32,
     pub unsure: u32,
@@ -14,20 +15,20 @@ pub struct HalfCounts {
 }
 
 // Of both kinds.
-#[derive(Drop)]
+#[derive(Clone, Copy)]
 pub struct Counts {
     pub x: HalfCounts,
     pub z: HalfCounts,
 }
 
 // Why the window is not read.
-#[derive(Drop)]
+#[derive(Clone, Copy)]
 pub enum WindowRefusal {
     Short,
 }
 
 // The answer to a read of the window: a refusal, or the counts.
-#[derive(Drop)]
+#[derive(Clone, Copy)]
 pub enum WindowAnswer {
     Refused(WindowRefusal),
     Counted(Counts),

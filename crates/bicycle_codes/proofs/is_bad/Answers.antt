@@ -1,0 +1,7 @@
+-- `bicycle_codes::is_bad` meets its contract. Assumes nothing.
+use borrow.Author.Rules.{rules}
+use Rattle.bicycle_codes.proofs.is_bad.Goals as goal
+
+pub returns : goal.returns
+returns c =
+    rw (c.is_outside.ensures, c.is_outside-2.ensures, c.is_outside-3.ensures, c.is_same.ensures, c.is_same-2.ensures, c.is_same-3.ensures)

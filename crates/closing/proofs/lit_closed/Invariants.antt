@@ -1,0 +1,13 @@
+-- `closing::lit_closed` meets its contract: no row so far is lit and closed. Assumes nothing.
+use borrow.Author.Rules.{rules}
+use Prim.Native.Nat.{◌-◌, ◌≤◌}
+use native.Mathlib.Omega.{arith}
+use mathlib.Core.Logic.{⊎_elim}
+use Rattle.closing.proofs.TakingRows.{PassedRows, passed_none, rows_more, lit_refused, lit_found, lit_none}
+use Rattle.closing.proofs.lit_closed.Given as goal
+
+abbrev pub invariant-loop-i : goal.invariant-loop-i
+invariant-loop-i l = (l.i ≤ l.count) × PassedRows l.lit l.first l.count l.work l.i
+
+abbrev pub decreases-loop-i : goal.decreases-loop-i
+decreases-loop-i l = l.count - l.i

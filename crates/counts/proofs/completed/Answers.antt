@@ -1,0 +1,6 @@
+-- `counts::completed` meets its contract. Assumes nothing.
+use borrow.Author.Rules.{rules}
+use Rattle.counts.proofs.completed.Goals as goal
+
+pub returns : goal.returns
+returns c = rw c.sum.ensures

@@ -1,0 +1,6 @@
+-- `counts::refused` meets its contract. Assumes nothing.
+use borrow.Author.Rules.{rules}
+use Rattle.counts.proofs.refused.Goals as goal
+
+pub returns : goal.returns
+returns c = rw (c.next_more-more.ensures, c.sum.ensures, c.refusal_number-number.ensures)

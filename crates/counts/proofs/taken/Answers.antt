@@ -1,0 +1,6 @@
+-- `counts::taken` meets its contract. Assumes nothing.
+use borrow.Author.Rules.{rules}
+use Rattle.counts.proofs.taken.Goals as goal
+
+pub returns : goal.returns
+returns c = rw (c.sum.ensures, c.sum-2.ensures)

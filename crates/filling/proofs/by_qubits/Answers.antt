@@ -1,0 +1,44 @@
+-- `filling::by_qubits` meets its contract: the open qubits below q are kept. Assumes nothing.
+use mathlib.Core.Path.{refl, ◌∙◌}
+use mathlib.Core.Logic.{⊎_elim}
+use Prim.Native.Nat.{◌-◌, ◌≤◌}
+use native.Mathlib.Omega.{arith}
+use borrow.Author.Rules.{rules}
+use borrow.Author.Tests.{not-false}
+use Rattle.filling.proofs.KeptQubits.{qubits_not, Reached, reached_none, reached_shut, reached_open, reached_past, reached_all}
+use Rattle.filling.proofs.by_qubits.Goals as goal
+
+pub returns-then-marks-n : goal.returns-then-marks-n
+returns-then-marks-n c = qubits_not _ _ _ _ _ _ _ _ refl (λ k h. refl)
+
+pub loop-q-init : goal.loop-q-init
+loop-q-init c = let start = c in (search rules, reached_none _ _ _ _ _ _ _ start.requires.0 start.requires.1 _ c.clear_words.ensures)
+
+pub keep_qubit-requires : goal.keep_qubit-requires
+keep_qubit-requires c = let start = c in (start.requires.1, omega (arith, start.requires.2, c.loop-q.invariant.1.long, c.clear_words.ensures.long))
+
+pub shape_of-work-then-not-keep_qubit : goal.shape_of-work-then-not-keep_qubit
+shape_of-work-then-not-keep_qubit c = c.keep_qubit.ensures.long ∙ c.loop-q.invariant.1.long ∙ c.clear_words.ensures.long
+
+pub returns-then-not-keep_qubit : goal.returns-then-not-keep_qubit
+returns-then-not-keep_qubit c = qubits_not _ _ _ _ _ _ _ _ (c.keep_qubit.ensures.long ∙ c.loop-q.invariant.1.long ∙ c.clear_words.ensures.long) (λ k h. c.keep_qubit.ensures.past (omega (arith, c.requires.0, c.loop-q-test.true)) k h ∙ reached_past _ _ _ _ _ _ _ c.requires.0 c.requires.1 _ _ c.loop-q.invariant.1 _ c.clear_words.ensures k h)
+
+pub loop-q-preserved : goal.loop-q-preserved
+loop-q-preserved c =
+    let start = c in
+    let reached = c.loop-q.invariant.1 in
+    let inside = c.loop-q-test.true in (
+      search rules,
+      ⊎_elim
+          (λ x. rw x.6 (reached_open _ _ _ _ _ _ _ start.requires.0 start.requires.1 _ _ reached inside x.0.taken _ _ (not-false _ x.5.left) x.2.ensures))
+          (λ x. rw x.1 (reached_shut _ _ _ _ _ _ _ start.requires.0 start.requires.1 _ _ reached inside x.0.left))
+          c.if-marks-q-eq4.branch,
+    )
+
+pub shape_of-work : goal.shape_of-work
+shape_of-work c = c.find_dangling.ensures.long ∙ c.loop-q.invariant.1.long ∙ c.clear_words.ensures.long
+
+pub returns : goal.returns
+returns c =
+    let start = c in
+    reached_all _ _ _ _ _ _ _ start.requires.0 start.requires.1 _ _ c.loop-q.invariant.1 (omega (arith, c.loop-q-test.false)) _ _ start.requires.2 c.clear_words.ensures c.find_dangling.ensures

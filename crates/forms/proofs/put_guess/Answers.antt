@@ -1,0 +1,18 @@
+-- `forms::put_guess` meets its contract: the words below the guess's are cleared. Assumes nothing.
+use native.Mathlib.Omega.{arith}
+use Rattle.forms.proofs.Putting.{guess_nothing, puts_guess}
+use borrow.Author.Rules.{rules}
+use Rattle.forms.proofs.put_guess.Goals as goal
+
+pub returns-then-n-qubit : goal.returns-then-n-qubit
+returns-then-n-qubit c = guess_nothing _ _ _ _ (λ a b d. absurd (omega arith))
+
+pub returns-then-forms-n : goal.returns-then-forms-n
+returns-then-forms-n c = guess_nothing _ _ _ _ (λ a b d. absurd (omega arith))
+
+pub returns-then-guess-gt255 : goal.returns-then-guess-gt255
+returns-then-guess-gt255 c = guess_nothing _ _ _ _ (λ a b d. absurd (omega arith))
+
+pub returns : goal.returns
+returns c =
+    puts_guess _ _ _ _ (omega arith) (omega arith) (omega arith) _ c.clear_words.ensures

@@ -1,0 +1,24 @@
+-- `forms::replacing::add_below` meets its contract: the words below word u are added. Assumes nothing.
+use mathlib.Core.Path.{◌≡◌, ◌∙◌}
+use Prim.Native.Nat.{◌-◌, ◌≤◌}
+use native.Mathlib.Omega.{arith}
+use Rattle.forms.specs.Words.{side_in}
+use Rattle.forms.specs.Changes.{Changed, adding_below}
+use Rattle.forms.specs.Sides.{check}
+use Rattle.forms.proofs.Changing.{side_kept, below_start, below_turn}
+use borrow.Author.Rules.{rules}
+use Rattle.forms.proofs.replacing.add_below.Goals as goal
+
+pub loop-u-init : goal.loop-u-init
+loop-u-init c = (search rules, below_start _ _ _ _ _)
+
+pub loop-u-preserved : goal.loop-u-preserved
+loop-u-preserved c =
+    let l = c.loop-u in (
+      omega arith,
+      below_turn _ _ _ _ _ _ _ _ _ c.loop-u-test.true l.invariant.1
+          (λ j. c.side_word-side.ensures.bits j ∙ side_kept _ _ _ _ _ _ _ _ l.invariant.1 j) c.add_side.ensures,
+    )
+
+pub returns : goal.returns
+returns c = let e : c.loop-u.u ≡ c.args.v = omega arith in rw e at c.loop-u.invariant.1

@@ -1,0 +1,17 @@
+-- `forms::replacing::add_side` meets its contract: the first q forms are done. Assumes nothing.
+use mathlib.Core.Path.{◌≡◌}
+use mathlib.Core.Logic.{⊎_elim}
+use Prim.Native.Nat.{◌-◌, ◌≤◌}
+use native.Mathlib.Omega.{arith}
+use Rattle.binary.specs.Words.{bit}
+use Rattle.forms.specs.Changes.{Changed, adding}
+use Rattle.forms.proofs.Changing.{changed_start, added_turn, added_skip}
+use Rattle.forms.proofs.WordBits.{odd_bit, even_bit}
+use borrow.Author.Rules.{rules}
+use Rattle.forms.proofs.replacing.add_side.Given as goal
+
+abbrev pub invariant-loop-q : goal.invariant-loop-q
+invariant-loop-q l = (l.q ≤ l.n) × Changed l.q (adding l.v l.k l.u (bit l.side)) l.initial.forms l.forms
+
+abbrev pub decreases-loop-q : goal.decreases-loop-q
+decreases-loop-q l = l.n - l.q

@@ -1,0 +1,22 @@
+-- `forms::take_up` meets its contract: one law for each way through it. Assumes nothing.
+use native.Mathlib.Omega.{arith}
+use Rattle.forms.proofs.TakingUp.{takes_none, takes_nothing, takes_failed, takes_dead, takes_guess}
+use borrow.Author.Rules.{rules}
+use Rattle.forms.proofs.take_up.Goals as goal
+
+pub returns-then-forms-n : goal.returns-then-forms-n
+returns-then-forms-n c = takes_none _ _ _ _ _ c.if-forms-n.true
+
+pub returns-then-word-eq0 : goal.returns-then-word-eq0
+returns-then-word-eq0 c = takes_nothing _ _ _ _ _ _ _ _ c.top_word-top.ensures.0 (omega arith) (λ i. omega (arith, c.slice_known-1.given i)) c.highest_part-part.ensures c.if-word-eq0.true
+
+pub returns-then-v-word : goal.returns-then-v-word
+returns-then-v-word c = takes_failed _ _ _ _ _ _ _ _ c.top_word-top.ensures.0 (omega arith) (λ i. omega (arith, c.slice_known-1.given i)) c.highest_part-part.ensures c.if-v-word.true
+
+pub returns-then-live-eq0 : goal.returns-then-live-eq0
+returns-then-live-eq0 c = takes_dead _ _ _ _ _ _ _ _ c.top_word-top.ensures.0 (omega arith) (λ i. omega (arith, c.slice_known-1.given i)) c.highest_part-part.ensures _ c.newest_bit-k.ensures c.if-word-eq0.false c.if-v-word.false c.if-live-eq0.true
+
+pub returns : goal.returns
+returns c =
+    takes_guess _ _ _ _ _ _ _ _ c.top_word-top.ensures.0 (omega arith) (λ i. omega (arith, c.slice_known-1.given i)) c.highest_part-part.ensures _ c.newest_bit-k.ensures c.if-word-eq0.false c.if-v-word.false
+    _ _ _ c.add_below.ensures c.replace_in_word.ensures c.move_above.ensures

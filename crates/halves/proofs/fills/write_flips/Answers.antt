@@ -1,0 +1,19 @@
+-- `halves::fills::write_flips` meets its contract. Assumes nothing.
+use Prim.Native.Nat.{◌-◌, ◌*◌, ◌%◌, ◌≤◌}
+use lib.ListN.{get_or}
+use borrow.Author.Rules.{rules}
+use Rattle.lists.specs.Filled.{Filled}
+use Rattle.lists.proofs.Filling.{fill_none, fill_turn, fill_end}
+use Rattle.halves.proofs.fills.write_flips.Goals as goal
+
+pub loop-q-init : goal.loop-q-init
+loop-q-init c = (search rules, fill_none _ _)
+
+pub loop-q-preserved : goal.loop-q-preserved
+loop-q-preserved c = (search rules, fill_turn _ _ _ _ _ c.loop-q.invariant.1 (search rules) c.constant_of.ensures)
+
+pub shape_of-correction : goal.shape_of-correction
+shape_of-correction c = c.loop-q.invariant.1.long
+
+pub returns : goal.returns
+returns c = fill_end _ _ _ _ _ c.loop-q.invariant.1 (search rules) (search rules)

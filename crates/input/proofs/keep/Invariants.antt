@@ -1,0 +1,16 @@
+-- `input::keep` meets its contract. Assumes nothing.
+use mathlib.Core.Path.{sym}
+use Rattle.input.proofs.Moving.{kept_more}
+use lib.ListN.{length, take, drop}
+use borrow.Author.Rules.{rules}
+use native.Mathlib.Omega.{arith}
+use Prim.Native.Nat.{◌-◌, ◌≤◌}
+use mathlib.Core.List.{◌++◌}
+use mathlib.Core.Path.{◌≡◌, refl}
+use Rattle.input.proofs.keep.Given as goal
+
+abbrev pub invariant-loop-i : goal.invariant-loop-i
+invariant-loop-i l = (l.i ≤ l.most) × (l.most ≡ l.end - l.from) × (length l.block ≡ length l.initial.block) × (l.block ≡ take l.i (drop l.from l.initial.block) ++ drop l.i l.initial.block)
+
+abbrev pub decreases-loop-i : goal.decreases-loop-i
+decreases-loop-i l = l.most - l.i

@@ -1,0 +1,12 @@
+-- `kept::lower_rows` meets its contract: the rows before row i are done. Assumes nothing.
+use borrow.Author.Rules.{rules}
+use Prim.Native.Nat.{◌-◌}
+use native.Mathlib.Omega.{arith}
+use Rattle.kept.proofs.Lowering.{LoweringAll, lower_start, lower_turn, lower_end}
+use Rattle.kept.proofs.lower_rows.Given as goal
+
+abbrev pub invariant-loop-i : goal.invariant-loop-i
+invariant-loop-i l = LoweringAll l.p.0 l.count l.initial.work l.i l.work
+
+abbrev pub decreases-loop-i : goal.decreases-loop-i
+decreases-loop-i l = l.count - l.i

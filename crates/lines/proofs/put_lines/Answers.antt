@@ -1,0 +1,28 @@
+-- `lines::put_lines` meets its contract. Assumes nothing.
+use Rattle.records.specs.contracts.Answer.{the_type}
+use Rattle.records.specs.declared.Answer.TheVariants.{Decoded}
+use Rattle.records.specs.declared.Answer.{Answer}
+use Rattle.records.specs.declared.Report.{Report}
+use mathlib.Core.Path.{◌≡◌, subst}
+use denote.Enum.Declared.{tag_of}
+use types.Run.{OneOf}
+use mathlib.Core.List.{[], ◌∷◌}
+use Rattle.lines.specs.Lines.{lines_of}
+use native.Mathlib.Omega.{arith}
+use mathlib.Core.Logic.{⊎_elim}
+use Rattle.lines.proofs.Flips.{other_lines}
+use Rattle.text.proofs.Putting.{puts_then}
+use borrow.Author.Rules.{rules}
+use Rattle.lines.proofs.put_lines.Goals as goal
+
+-- An answer of another variant has no report.
+no_report : (a : Answer) → OneOf (0 ∷ 1 ∷ 2 ∷ []) (tag_of the_type a) → (r : Report) → a ≡ Decoded r → ⊥
+no_report a t r e =
+    ⊎_elim (λ i. omega arith) (λ b. ⊎_elim (λ i. omega arith) (λ i. omega arith) b) (subst (λ (x : Answer). OneOf (0 ∷ 1 ∷ 2 ∷ []) (tag_of the_type x)) e t)
+
+pub returns-in_default : goal.returns-in_default
+returns-in_default c = rw (other_lines _ _ _ _ _ (no_report _ c.in_default.keys2)) c.put_other.ensures
+
+pub returns : goal.returns
+unfolding lines_of
+returns c = rw c.in-Decoded.is (puts_then c.put_half-end.ensures c.put_half.ensures)

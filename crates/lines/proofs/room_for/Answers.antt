@@ -1,0 +1,8 @@
+-- `lines::room_for` meets its contract. Assumes nothing.
+use Rattle.lines.specs.Lines.{room_for}
+use borrow.Author.Rules.{rules}
+use Rattle.lines.proofs.room_for.Goals as goal
+
+pub returns : goal.returns
+unfolding room_for
+returns c = rw (c.least.ensures, c.least-2.ensures)

@@ -1,0 +1,6 @@
+-- `loading::clashes` meets its contract. Assumes nothing.
+use borrow.Author.Rules.{rules}
+use Rattle.loading.proofs.clashes.Goals as goal
+
+pub returns : goal.returns
+returns c = rw (c.if-xrow.false, c.if-st.false, c.even_with.ensures)

@@ -1,0 +1,18 @@
+-- `numbering::number_row` meets its contract. Assumes nothing.
+use mathlib.Core.Path.{◌≡◌, refl, ◌∙◌}
+use mathlib.Core.Logic.{inl}
+use mathlib.Core.Bool.{false, ◌&&◌}
+use Prim.Native.Nat.{ℕ, ◌-◌, ◌≤◌, ◌<◌}
+use native.Mathlib.Omega.{arith}
+use lib.ListN.{length, get_or}
+use Rattle.binary.proofs.WordBits.{bit_zero}
+use Rattle.packing.specs.Packed.{cell}
+use Rattle.columns.specs.Columns.{untaken}
+use Rattle.numbering.proofs.Counting.{Counting, counting_none, counting_word, row_bits, counted_row}
+use Rattle.numbering.proofs.number_row.Given as goal
+
+abbrev pub invariant-loop-k : goal.invariant-loop-k
+invariant-loop-k l = (l.k ≤ l.w) × (length l.m ≡ length l.initial.m) × ((j : ℕ) → j < 8192 → get_or l.m j 0 ≡ get_or l.initial.m j 0) × Counting 1 l.k (λ c. false) (λ c. cell l.initial.m l.w l.i c && untaken l.initial.m c) l.initial.m l.m
+
+abbrev pub decreases-loop-k : goal.decreases-loop-k
+decreases-loop-k l = l.w - l.k

@@ -1,0 +1,15 @@
+-- `peeling::peels_away` meets its contract: so many open qubits are left. Assumes nothing.
+use borrow.Author.Rules.{rules}
+use mathlib.Core.Path.{◌≡◌, ◌∙◌}
+use mathlib.Core.Bool.{true}
+use native.Mathlib.Omega.{arith}
+use lib.ListN.{length}
+use Rattle.peeling.specs.Peeling.{enough?}
+use Rattle.peeling.proofs.Steps.{Goes, room, enough_told, peels_refused, goes_start, peels_done, peels_stuck, goes_on}
+use Rattle.peeling.proofs.peels_away.Given as goal
+
+abbrev pub invariant-loop-left : goal.invariant-loop-left
+invariant-loop-left l = (enough? l.n l.rows.first.0 l.rows.count (length l.initial.marks) (length l.initial.work) ≡ true) × Goes l.n l.flat l.ends l.rows.first.0 l.rows.count (record { l.marks = l.initial.marks; l.work = l.initial.work }) l.left (record { l.marks = l.marks; l.work = l.work })
+
+abbrev pub decreases-loop-left : goal.decreases-loop-left
+decreases-loop-left l = l.left

@@ -1,0 +1,6 @@
+-- `plain::reported` meets its contract. Assumes nothing.
+use borrow.Author.Rules.{rules}
+use Rattle.plain.proofs.reported.Goals as goal
+
+pub returns : goal.returns
+returns c = rw (c.half.ensures, c.half-2.ensures)

@@ -1,0 +1,6 @@
+-- `plain::state_of` meets its contract. Assumes nothing.
+use borrow.Author.Rules.{rules}
+use Rattle.plain.proofs.state_of.Goals as goal
+
+pub returns : goal.returns
+returns c = rw c.phase_of.ensures

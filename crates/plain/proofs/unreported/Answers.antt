@@ -1,0 +1,6 @@
+-- `plain::unreported` meets its contract. Assumes nothing.
+use borrow.Author.Rules.{rules}
+use Rattle.plain.proofs.unreported.Goals as goal
+
+pub returns : goal.returns
+returns c = rw (c.no_half.ensures, c.no_half-2.ensures)

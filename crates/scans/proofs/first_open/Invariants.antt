@@ -1,0 +1,16 @@
+-- `scans::first_open` meets its contract: no qubit so far is open. Assumes nothing.
+use borrow.Author.Rules.{rules}
+use mathlib.Core.Path.{◌≡◌, refl, sym, ◌∙◌}
+use Prim.Native.Nat.{◌-◌, ◌≤◌}
+use native.Mathlib.Omega.{arith}
+use lib.ListN.{length, drop}
+use Rattle.machine.specs.Machine.{is_open, part}
+use Rattle.machine.specs.Lists.{view}
+use Rattle.scans.proofs.Scanning.{part_no}
+use Rattle.scans.proofs.first_open.Given as goal
+
+abbrev pub invariant-loop-i : goal.invariant-loop-i
+invariant-loop-i l = (l.i ≤ length l.row) × (part (is_open (view l.n l.marks)) (drop 0 l.row) ≡ part (is_open (view l.n l.marks)) (drop l.i l.row))
+
+abbrev pub decreases-loop-i : goal.decreases-loop-i
+decreases-loop-i l = length l.row - l.i

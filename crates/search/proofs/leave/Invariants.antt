@@ -1,0 +1,15 @@
+-- `search::leave` meets its contract: row j is the last one with the column so far. Assumes nothing.
+use mathlib.Core.Path.{◌∙◌}
+use Prim.Native.Nat.{◌+◌, ◌≤◌, ◌<◌}
+use native.Mathlib.Nat.{le_refl}
+use native.Mathlib.Omega.{arith}
+use borrow.Author.Rules.{rules}
+use Rattle.columns.specs.Columns.{rows_with}
+use Rattle.search.proofs.Rows.{one_less_lem, rest_same, made_out, Later, later_none, later_to, later_added, leaves_alone, leaves_merged}
+use Rattle.search.proofs.leave.Given as goal
+
+abbrev pub invariant-loop-j : goal.invariant-loop-j
+invariant-loop-j l = (l.first ≤ l.j) × (l.j < l.rows) × Later l.w l.rows l.i l.first (l.j + 1) l.q l.initial.m l.m × (rows_with l.m l.w (l.j + 1) l.rows l.q ≤ l.left)
+
+abbrev pub decreases-loop-j : goal.decreases-loop-j
+decreases-loop-j l = l.left

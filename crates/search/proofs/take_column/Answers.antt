@@ -1,0 +1,11 @@
+-- `search::take_column` meets its contract. Assumes nothing.
+use Rattle.search.proofs.Stands.{takes_none, takes_one}
+use borrow.Author.Rules.{rules}
+use Rattle.search.proofs.take_column.Goals as goal
+
+pub returns-then-not-clear_column : goal.returns-then-not-clear_column
+returns-then-not-clear_column c = takes_none _ _ _ _ _ _ _ c.clear_column.ensures c.if-not-clear_column.true
+
+pub returns : goal.returns
+returns c =
+    takes_one _ _ _ _ _ _ _ (search rules) (search rules) (search rules) c.clear_column.ensures c.if-not-clear_column.false

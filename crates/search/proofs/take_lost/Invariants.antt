@@ -1,0 +1,15 @@
+-- `search::take_lost` meets its contract. Assumes nothing.
+use mathlib.Core.Path.{◌≡◌, refl, ◌∙◌}
+use Prim.Native.Nat.{◌-◌, ◌≤◌}
+use native.Mathlib.Omega.{arith}
+use borrow.Author.Rules.{rules}
+use lib.ListN.{length}
+use Rattle.search.specs.Search.{Losts}
+use Rattle.search.proofs.Losts.{losts_none, losts_more}
+use Rattle.search.proofs.take_lost.Given as goal
+
+abbrev pub invariant-loop-q : goal.invariant-loop-q
+invariant-loop-q l = (l.q ≤ l.n) × (l.top ≤ l.rows) × (length l.work ≡ length l.initial.work) × (length l.marks ≡ length l.initial.marks) × Losts l.n l.w l.rows l.lost l.first l.initial.work l.initial.marks l.q l.top l.work l.marks
+
+abbrev pub decreases-loop-q : goal.decreases-loop-q
+decreases-loop-q l = l.n - l.q

@@ -1,0 +1,29 @@
+-- `starting::start_marks` meets its contract: the first q qubits are marked. Assumes nothing.
+use mathlib.Core.Path.{◌∙◌}
+use mathlib.Core.Logic.{⊎_elim}
+use Prim.Native.Nat.{◌-◌, ◌≤◌}
+use borrow.Author.Rules.{rules}
+use Rattle.lists.specs.Filled.{Filled}
+use Rattle.lists.proofs.Filling.{fill_none, fill_turn, fill_end}
+use Rattle.starting.specs.Starting.{open_mark}
+use Rattle.starting.proofs.OpenMarks.{lost_open, kept_unmarked}
+use Rattle.starting.proofs.start_marks.Goals as goal
+
+pub loop-q-init : goal.loop-q-init
+loop-q-init c = (search rules, fill_none _ _)
+
+pub loop-q-preserved : goal.loop-q-preserved
+loop-q-preserved c =
+    let at = c in
+    let args = at.args in (
+      search rules,
+      fill_turn _ _ _ _ _ at.loop-q.invariant.1 (search rules)
+          (⊎_elim (λ x. x.1 ∙ lost_open args.n args.lost.now at.loop-q.q (search rules) x.0.taken)
+          (λ x. x.1 ∙ kept_unmarked args.n args.lost.now at.loop-q.q (search rules) x.0.left) c.if-lost-q-eq1.branch),
+    )
+
+pub shape_of-marks : goal.shape_of-marks
+shape_of-marks c = c.loop-q.invariant.1.long
+
+pub returns : goal.returns
+returns c = fill_end _ _ _ _ _ c.loop-q.invariant.1 (search rules) (search rules)

@@ -1,0 +1,13 @@
+-- `trying::entries::open_rows` meets its contract: the rows before place k have the qubit. Assumes nothing.
+use Prim.Native.Nat.{◌-◌, ◌≤◌}
+use native.Mathlib.Omega.{arith}
+use lib.ListN.{length}
+use borrow.Author.Rules.{rules}
+use Rattle.trying.proofs.OpeningRows.{Opening, opening_start, opening_row, opening_end}
+use Rattle.trying.proofs.entries.open_rows.Given as goal
+
+abbrev pub invariant-loop-k : goal.invariant-loop-k
+invariant-loop-k l = (l.k ≤ length l.on) × Opening l.q.0 l.on l.rows.first.0 l.rows.count l.lit l.initial.work l.k l.work
+
+abbrev pub decreases-loop-k : goal.decreases-loop-k
+decreases-loop-k l = length l.on - l.k

@@ -1,0 +1,15 @@
+-- `trying::entries::settle_rows` meets its contract: the rows before place k have the value in place of the qubit. Assumes nothing.
+use mathlib.Core.Path.{◌∙◌}
+use Prim.Native.Nat.{◌-◌, ◌≤◌}
+use native.Mathlib.Omega.{arith}
+use lib.ListN.{length}
+use borrow.Author.Tests.{not-false}
+use borrow.Author.Rules.{rules}
+use Rattle.trying.proofs.SettlingRows.{Settling, settling_start, settling_row, settling_not, settling_end}
+use Rattle.trying.proofs.entries.settle_rows.Given as goal
+
+abbrev pub invariant-loop-k : goal.invariant-loop-k
+invariant-loop-k l = (l.k ≤ length l.on) × Settling l.p.0 l.v l.on l.rows.first.0 l.rows.count l.lit l.initial.work l.k l.work
+
+abbrev pub decreases-loop-k : goal.decreases-loop-k
+decreases-loop-k l = length l.on - l.k

@@ -1,0 +1,13 @@
+-- `trying::peels::run` meets its contract: the half that is left to run ends as the whole one. Assumes nothing.
+use mathlib.Core.Path.{◌∙◌}
+use native.Mathlib.Omega.{arith}
+use Rattle.trying.proofs.Running.{Goes, goes_start, goes_unknown, goes_over, goes_not, goes_left, goes_on}
+use borrow.Author.Rules.{rules}
+use Rattle.trying.proofs.peels.run.Given as goal
+
+abbrev pub invariant-loop-left : goal.invariant-loop-left
+invariant-loop-left l = Goes l.n l.ends l.lit l.rows.first.0 l.rows.count l.limit l.fixed l.unsettled (record { l.marks = l.initial.marks; l.forms = l.initial.forms; l.work = l.initial.work })
+    (record { l.marks = l.marks; l.forms = l.forms; l.work = l.work }) l.turns l.left
+
+abbrev pub decreases-loop-left : goal.decreases-loop-left
+decreases-loop-left l = l.left
