@@ -24,5 +24,5 @@ by_rows-requires c =
 pub returns : goal.returns
 returns c =
     let enough = enough_told _ _ _ _ (c.is_enough.ensures _ _) (ap not c.if-not-is_enough.false) in
-    let r = room_told _ _ _ _ (c.is_enough.ensures [] []) c.if-not-is_enough.false in
+    let r = room_told _ _ _ _ (c.is_enough.ensures [] []) (ap not c.if-not-is_enough.false) in
     fills_rows _ _ _ _ _ (c.by_rows.ensures.0 ∙ c.by_qubits.ensures.long) (λ k h. c.by_rows.ensures.1 k h ∙ c.by_qubits.ensures.past k h) enough r.few c.by_rows.ensures.2
