@@ -14,14 +14,5 @@ loop-k-init c = (search rules, shortest_start _)
 pub returns-then-rows-eq0 : goal.returns-then-rows-eq0
 returns-then-rows-eq0 c = let l = c.loop-k in shortest_empty _ _ _ _ l.invariant.1 _ l.invariant.0 c.if-rows-eq0.true
 
-pub loop-k-preserved : goal.loop-k-preserved
-loop-k-preserved c =
-    let s = c.loop-k.invariant.1 in (
-      search rules,
-      ⊎_elim
-          (λ x. rw (x.4, x.5) (shortest_new _ _ _ _ s _ x.1.ensures x.3.taken))
-          (⊎_elim (λ x. rw (x.4, x.5) (shortest_same _ _ _ _ s _ x.1.ensures x.3.left)) (λ x. rw (x.1, x.2) (shortest_none _ _ _ _ s (omega (arith, x.0.left))))) c.if-word-ne0.branch,
-    )
-
 pub returns : goal.returns
 returns c = let e : c.loop-k.k ≡ c.args.w = omega arith in rw e at c.loop-k.invariant.1
