@@ -35,7 +35,7 @@ number_rows-requires c =
     let f = k in
     let a = f.args in
     let o = startable_out a.w a.rows a.n (length a.lost.now) (length a.work.now) f.if-fits.true in
-    (o.1, o.0, omega (arith, o.2, c.set_known.auto.work, k.clear_words.auto.list))
+    (o.1, o.0, omega (arith, o.2, c.set_known.auto.m, k.clear_words.auto.list))
 
 pub returns-then-fits : goal.returns-then-fits
 unfolding startable?
