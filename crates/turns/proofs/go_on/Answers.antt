@@ -22,7 +22,7 @@ go_on_marked-requires c =
     let old : Working = record { marks = a.marks.now; forms = a.forms.now; work = a.work.now } in
     let r : RowLists = record { flat = a.flat.now; ends = a.ends.now; lit = a.lit.now; first = a.rows.first.0; count = a.rows.count } in
     let both = and_out _ _ (enough_told _ _ (ap (λ (b : Bool). b && leb a.made a.limit) c.is_enough.ensures) (ap not c.if-not-is_enough-made.false)) in
-    let v = enough_out _ r old both.0 in ((v.size, v.marks, v.forms, v.work, v.few, v.lit, v.last), leb-true _ _ both.1)
+    let v = enough_out _ r old both.0 in record { n_bound = (v.size, v.marks, v.forms, v.work, v.few, v.lit, v.last); made_le_limit = leb-true _ _ both.1 }
 
 pub returns : goal.returns
 returns c =
