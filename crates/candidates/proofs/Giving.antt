@@ -1,4 +1,5 @@
 -- A candidate by words: the parity of a form's bits in a mask is the form's value, and the answers to the tests. Assumes nothing.
+use Rattle.binary.specs.Bits.{◌⊕◌}
 use mathlib.Core.Path.{◌≡◌, refl, sym, ap, ap₂, ◌∙◌}
 use mathlib.Core.Bool.{Bool, true, false, not, ◌&&◌, ◌||◌}
 use mathlib.Core.Option.{Option, none, some}

@@ -11,7 +11,6 @@ use Rattle.binary.specs.Meaning.{Qubits, Check}
 use Rattle.binary.proofs.Bits.{bit, never, eq_eqb, eqb_differ, none_counted}
 use Rattle.machine.specs.declared.Word.{Word}
 use Rattle.machine.specs.declared.Word.TheVariants.{None, Stopped}
-use Rattle.machine.specs.declared.Word
 use Rattle.forms.specs.declared.Taken.{Taken}
 use Rattle.forms.specs.declared.Taken.TheVariants.{Failed, Live}
 use Rattle.turns.specs.declared.Move.{Move}

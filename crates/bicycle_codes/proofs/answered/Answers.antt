@@ -1,4 +1,5 @@
 -- `bicycle_codes::answered` meets its contract. Assumes nothing.
+use mathlib.Core.Bool.{◌||◌}
 use mathlib.Core.Path.{sym, ap₂, ◌∙◌}
 use borrow.Author.Tests.{lt-ltb, le-ltb}
 use Rattle.bicycle_codes.proofs.Answers.{on_grid, on_term, on_short, on_written}
