@@ -53,7 +53,7 @@ counted n marks m total h e = rw (le-leb n (length marks) h) e
 module _ (n : ℕ) (marks : List ℕ) (m q : ℕ) (h : q < n) where
   pub marked_yes : (total : ℕ) → total ≡ marked q (view n marks) m → get_or marks q 0 ≡ m
       → total + 1 ≡ marked (q + 1) (view n marks) m
-  marked_yes total t e = rw (add-one total, add-one q, lt-ltb q n h, Tests.eq_eqb (get_or marks q 0) m e) (ap suc t)
+  marked_yes total t e = rw (add-one total, add-one q, lt-ltb q n h, Tests.eq-eqb (get_or marks q 0) m e) (ap suc t)
 
   pub marked_no : (total : ℕ) → total ≡ marked q (view n marks) m → (get_or marks q 0 ≡ m → ⊥)
       → total ≡ marked (q + 1) (view n marks) m

@@ -5,9 +5,10 @@ use native.Mathlib.Omega.{arith}
 use borrow.Author.Rules.{rules}
 use Rattle.bicycle_codes.proofs.Grid.{within}
 use Rattle.bicycle_codes.proofs.moved.Goals as goal
+use Rattle.bicycle_codes.proofs.moved.Goals.{Start}
 
 -- The number is below l times m.
-bound : (c : goal.Start) → (c.args.p / c.args.m + c.args.a) % c.args.l * c.args.m + (c.args.p % c.args.m + c.args.b) % c.args.m < c.args.l * c.args.m
+bound : (c : Start) → (c.args.p / c.args.m + c.args.a) % c.args.l * c.args.m + (c.args.p % c.args.m + c.args.b) % c.args.m < c.args.l * c.args.m
 bound c = within c.args.l c.args.m (c.args.p / c.args.m + c.args.a) (c.args.p % c.args.m + c.args.b) (omega arith) (omega arith)
 
 pub overflow_add-i : goal.overflow_add-i

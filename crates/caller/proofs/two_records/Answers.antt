@@ -3,15 +3,16 @@ use mathlib.Core.Path.{◌∙◌}
 use borrow.Author.Rules.{rules}
 use Rattle.caller.proofs.Laws.{two_records}
 use Rattle.caller.proofs.two_records.Goals as goal
+use Rattle.caller.proofs.two_records.Goals.{After-slice_known-33-1}
 
 -- The call for the second record, the call for the first, and the fresh start.
-abbrev second : goal.After-slice_known-33-1 → goal.After-step-to_second
+abbrev second : After-slice_known-33-1 → goal.After-step-to_second
 second c = c
 
-abbrev first : goal.After-slice_known-33-1 → goal.After-step-to_first
+abbrev first : After-slice_known-33-1 → goal.After-step-to_first
 first c = (second c).before.before.before.before.before.before.before.before.before.before.before.before.before.before.before.before.before.before.before.before.before.before.before.before.before.before.before.before.before.before.before.before.before.before.before
 
-abbrev start : goal.After-slice_known-33-1 → goal.After-fresh-start
+abbrev start : After-slice_known-33-1 → goal.After-fresh-start
 start c = (first c).before.before.before.before.before.before.before.before.before.before.before.before
 
 pub shape_of-flat : goal.shape_of-flat

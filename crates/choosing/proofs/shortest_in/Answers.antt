@@ -7,14 +7,7 @@ use native.Mathlib.Omega.{arith}
 use Rattle.choosing.proofs.HighPlanes.{none_tall}
 use Rattle.choosing.proofs.Narrowing.{Narrowed, narrowed_start, narrowed_low, narrowed_all, narrowed_short, narrowed_end, few_zeros, few_rows}
 use Rattle.choosing.proofs.shortest_in.Goals as goal
-
-pub loop-p-init : goal.loop-p-init
-loop-p-init c =
-    let word_fits = c.ranges.word.fits in
-    ⊎_elim
-    (λ x. rw x.1 (search rules, narrowed_low _ _ _ (search rules) word_fits (none_tall _ _ _ _ c.tall.ensures x.0.taken)))
-    (λ x. rw x.1 (search rules, narrowed_start _ _ _ (search rules) word_fits))
-    c.if-word-tall-eq0.branch
+use Rattle.choosing.proofs.shortest_in.Goals.{then-word-tall-eq0, else-word-tall-eq0}
 
 pub overflow_mul-rows : goal.overflow_mul-rows
 overflow_mul-rows c = omega (arith, few_rows _ _ _ _ _ _ c.loop-p.invariant.1)
@@ -36,3 +29,10 @@ overflow_add-column c = let few = few_zeros _ _ _ _ _ _ c.loop-p.invariant.1 in 
 
 pub returns : goal.returns
 returns c = let e : c.loop-p.p ≡ 0 = omega arith in narrowed_end _ _ _ _ _ (rw e at c.loop-p.invariant.1)
+
+pub loop-p-init : goal.loop-p-init
+loop-p-init c =
+    elim c.if-word-tall-eq0.branch [
+        then-word-tall-eq0 w ↦ rw w.p-is (search rules, narrowed_low _ _ _ (search rules) c.ranges.word.fits (none_tall _ _ _ _ c.tall.ensures w.if-word-tall-eq0.true))
+      | else-word-tall-eq0 w ↦ rw w.p-is (search rules, narrowed_start _ _ _ (search rules) c.ranges.word.fits)
+    ]

@@ -21,8 +21,5 @@ loop-i-init c = (search rules, λ flat ends. passed_none (record { flat = flat; 
 pub returns-then-work-i-eq0 : goal.returns-then-work-i-eq0
 returns-then-work-i-eq0 c = lit_found _ _ _ _ (omega arith) (omega arith) (omega arith) _ c.loop-i-test.true c.loop-i.invariant.1 c.if-lit-first-eq1.true c.if-work-i-eq0.true
 
-pub loop-i-preserved : goal.loop-i-preserved
-loop-i-preserved c = (search rules, rows_more _ _ _ _ _ c.loop-i-test.true c.loop-i.invariant.1 (⊎_elim (λ x a e. x.2.left e) (λ x a e. x.left a) c.if-lit-first-eq1.branch))
-
 pub returns : goal.returns
 returns c = lit_none _ _ _ _ (omega arith) (omega arith) (omega arith) _ c.loop-i.invariant.1 (omega (arith, c.loop-i-test.false))

@@ -2,12 +2,13 @@
 use Rattle.decoding.proofs.Halves.{both_decoded}
 use borrow.Author.Rules.{rules}
 use Rattle.decoding.proofs.decode_halves.Goals as goal
+use Rattle.decoding.proofs.decode_halves.Goals.{After-report_in-2}
 
 -- Where the Z half is decoded, and the X half before it.
-abbrev at-z : goal.After-report_in-2 → goal.After-decode_half-of_z
+abbrev at-z : After-report_in-2 → goal.After-decode_half-of_z
 at-z c = c
 
-abbrev at_x : goal.After-report_in-2 → goal.After-decode_half-of_x
+abbrev at_x : After-report_in-2 → goal.After-decode_half-of_x
 at_x c = (at-z c).before.before.before.before.before.before.before.before.before.before.before.before.before
 
 pub returns : goal.returns

@@ -14,15 +14,6 @@ loop-j-init c = (search rules, adding_start _ _ _ _ _)
 pub overflow_add-open : goal.overflow_add-open
 overflow_add-open c = let z = c.loop-j.invariant.1.few in search rules
 
-pub loop-j-preserved : goal.loop-j-preserved
-loop-j-preserved c =
-    let start = c in (
-      search rules,
-      ⊎_elim
-          (λ x. rw (x.5, x.6) (adding_open _ _ _ _ _ _ _ _ c.loop-j.invariant.1 c.loop-j-test.true (sym c.is_open.ensures ∙ x.0.taken) start.requires.0 start.requires.1 start.requires.2 _ x.2.ensures))
-          (λ x. rw (x.1, x.2) (adding_not _ _ _ _ _ _ _ _ c.loop-j.invariant.1 c.loop-j-test.true (sym c.is_open.ensures ∙ x.0.left))) c.if-is_open.branch,
-    )
-
 pub shape_of-work : goal.shape_of-work
 shape_of-work c = c.loop-j.invariant.1.long
 

@@ -23,18 +23,6 @@ shape_of-work-then-not-keep_qubit c = c.keep_qubit.ensures.long ∙ c.loop-q.inv
 pub returns-then-not-keep_qubit : goal.returns-then-not-keep_qubit
 returns-then-not-keep_qubit c = qubits_not _ _ _ _ _ _ _ _ (c.keep_qubit.ensures.long ∙ c.loop-q.invariant.1.long ∙ c.clear_words.ensures.long) (λ k h. c.keep_qubit.ensures.past (omega (arith, c.requires.0, c.loop-q-test.true)) k h ∙ reached_past _ _ _ _ _ _ _ c.requires.0 c.requires.1 _ _ c.loop-q.invariant.1 _ c.clear_words.ensures k h)
 
-pub loop-q-preserved : goal.loop-q-preserved
-loop-q-preserved c =
-    let start = c in
-    let reached = c.loop-q.invariant.1 in
-    let inside = c.loop-q-test.true in (
-      search rules,
-      ⊎_elim
-          (λ x. rw x.6 (reached_open _ _ _ _ _ _ _ start.requires.0 start.requires.1 _ _ reached inside x.0.taken _ _ (not-false _ x.5.left) x.2.ensures))
-          (λ x. rw x.1 (reached_shut _ _ _ _ _ _ _ start.requires.0 start.requires.1 _ _ reached inside x.0.left))
-          c.if-marks-q-eq4.branch,
-    )
-
 pub shape_of-work : goal.shape_of-work
 shape_of-work c = c.find_dangling.ensures.long ∙ c.loop-q.invariant.1.long ∙ c.clear_words.ensures.long
 

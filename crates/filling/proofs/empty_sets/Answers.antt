@@ -12,12 +12,6 @@ use Rattle.filling.proofs.empty_sets.Goals as goal
 pub loop-q-init : goal.loop-q-init
 loop-q-init c = (search rules, emptying_start _ _ _)
 
-pub loop-q-preserved : goal.loop-q-preserved
-loop-q-preserved c = (
-  search rules,
-  ⊎_elim (λ x. rw x.5 (emptying_open _ _ _ _ _ c.loop-q.invariant.1 (omega arith) _ x.2.ensures))
-      (λ x. rw x.1 (emptying_not _ _ _ _ _ c.loop-q.invariant.1 (sym c.is_open.ensures ∙ x.0.left))) c.if-is_open.branch,
-
 pub shape_of-work : goal.shape_of-work
 shape_of-work c = c.clear_words-2.ensures.long ∙ c.loop-q.invariant.1.long
 

@@ -14,14 +14,6 @@ loop-i-init c = (search rules, adding_start _ _ _ _)
 pub overflow_cast-q : goal.overflow_cast-q
 overflow_cast-q c = omega (arith, c.shared_slice_known-1.given c.loop-i.i)
 
-pub loop-i-preserved : goal.loop-i-preserved
-loop-i-preserved c =
-    let a = c.loop-i.invariant.1 in (
-      search rules,
-      ⊎_elim (λ x. rw x.2 (adding_yes _ _ _ _ _ _ a _ refl (search rules) (search rules) (search rules) _ refl))
-          (λ x. rw x.1 (adding_no _ _ _ _ _ _ a _ refl (search rules) (search rules))) c.if-q-n.branch,
-    )
-
 pub shape_of-work : goal.shape_of-work
 shape_of-work c = c.loop-i.invariant.1.alone.long
 

@@ -10,17 +10,6 @@ use Rattle.guessing.proofs.most.Goals as goal
 pub loop-q-init : goal.loop-q-init
 loop-q-init c = (search rules, refl)
 
-pub loop-q-preserved : goal.loop-q-preserved
-loop-q-preserved c =
-    let here = c in
-    let args = here.args in (
-      search rules,
-      ⊎_elim
-          (λ x. rw (x.1, x.2) (leads_taken args.n args.work.now here.loop-q.at here.loop-q.largest here.loop-q.q args.marks.now (search rules) here.loop-q.invariant.1 x.0.taken))
-          (λ x. rw (x.1, x.2) (leads_left args.n args.work.now here.loop-q.at here.loop-q.largest here.loop-q.q args.marks.now (search rules) here.loop-q.invariant.1 x.0.left))
-          c.if-marks-q.branch,
-    )
-
 pub returns-then-at-n : goal.returns-then-at-n
 returns-then-at-n c =
     let here = c in

@@ -16,31 +16,15 @@ returns-then-block-held c = record { stays = refl; more = omega arith; most = λ
 pub loop-reads-init : goal.loop-reads-init
 loop-reads-init c =
     let r = c.read_once-got in
-    let k : length r.new.0 ≡ length c.args.block.now = r.auto.0 in
+    let k : length r.new.0 ≡ length c.args.block.now = r.auto.block in
     (omega (arith, c.if-block-held.false), refl, first {g = r.result} (rw k r.ensures.0), refl, omega arith)
 
 pub loop-reads-preserved : goal.loop-reads-preserved
 loop-reads-preserved c =
     let r = c.read_once-got-in-loop-reads in
     let l = c.loop-reads in
-    let k : length r.new.0 ≡ length l.block = r.auto.0 in
+    let k : length r.new.0 ≡ length l.block = r.auto.block in
     (omega (arith, l.invariant.0), k ∙ l.invariant.1, another_read l.invariant.2 c.if-got.true (rw l.invariant.1 at r.ensures.0), r.ensures.1 ∙ l.invariant.3, omega (arith, c.loop-reads-test.true))
 
 pub overflow_add-result : goal.overflow_add-result
 overflow_add-result c = let l = c.loop-reads in omega (arith, (attempt_last l.invariant.2).most, l.invariant.0, l.invariant.1)
-
-pub returns : goal.returns
-returns c =
-    let r = c.read_once-got in
-    let l = c.loop-reads in
-    let s = c in
-    let k : length r.new.0 ≡ length s.args.block.now = r.auto.0 in
-    record {
-      stays = l.invariant.3 ∙ r.ensures.1;
-      more = omega arith;
-      most = λ h. omega (arith, (attempt_last l.invariant.2).most);
-      ended = none_came s.args.held l.got.count;
-      reads = λ h. rw (error_back l.got.error c.struct_told-1.given.1.1.0.1) (last_read_lem s.args.held (rw k at l.invariant.2));
-      again = λ e. ⊎_elim (λ x. again_not l.invariant.2 x.1.left (rw (error_back l.got.error c.struct_told-1.given.1.1.0.1) at e)) (λ x. omega (arith, x.left, l.invariant.4)) c.loop-reads-test.branch;
-      outside = λ h. absurd (omega (arith, c.if-block-held.false));
-    }

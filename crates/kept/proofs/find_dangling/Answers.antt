@@ -6,19 +6,14 @@ use lib.ListN.{set}
 use borrow.Author.Rules.{rules}
 use Rattle.kept.proofs.Finding.{Finding, finds_not, finding_none, finding_few, finding_word, finding_end}
 use Rattle.kept.proofs.find_dangling.Goals as goal
-
-abbrev start : goal.After-dangling_word-word → goal.Start
-start c = c
-
-abbrev at : goal.After-dangling_word-word → goal.At-loop-k
-at c = c
+use Rattle.kept.proofs.find_dangling.Goals.{After-dangling_word-word}
 
 -- What holds once the word of row `from` is written.
-after : (c : goal.After-dangling_word-word
-    → Finding (start c).args.count (start c).args.work.now ((at c).loop.k + 1) c.word_end-end.result ((at c).loop.total + ones c.dangling_word-word.result) (set (at c).loop.work (8192 + (at c).loop.k) c.dangling_word-word.result)
+after : (c : After-dangling_word-word)
+    → Finding c.args.count c.args.work.now (c.loop-k.k + 1) c.word_end-end.result (c.loop-k.total + ones c.dangling_word-word.result) (set c.loop-k.work (8192 + c.loop-k.k) c.dangling_word-word.result)
 after c =
     let end = c.word_end-end.ensures in
-    finding_word _ _ (omega arith) (omega arith) _ _ _ _ (at c).loop.invariant.1 (omega arith) _ end.0 end.1 end.2 end.3 _ c.dangling_word-word.ensures
+    finding_word _ _ (omega arith) (omega arith) _ _ _ _ c.loop-k.invariant.1 (omega arith) _ end.0 end.1 end.2 end.3 _ c.dangling_word-word.ensures
 
 pub returns-then-work-lt-END : goal.returns-then-work-lt-END
 returns-then-work-lt-END c = finds_not _ _ (λ a b. omega (arith, c.if-work-lt-END.true))

@@ -15,13 +15,8 @@ use Rattle.text.proofs.Putting.{puts_then}
 use borrow.Author.Rules.{rules}
 use Rattle.lines.proofs.put_lines.Goals as goal
 
--- An answer of another variant has no report.
-no_report : (a : Answer) → OneOf (0 ∷ 1 ∷ 2 ∷ []) (tag_of the_type a) → (r : Report) → a ≡ Decoded r → ⊥
-no_report a t r e =
-    ⊎_elim (λ i. omega arith) (λ b. ⊎_elim (λ i. omega arith) (λ i. omega arith) b) (subst (λ (x : Answer). OneOf (0 ∷ 1 ∷ 2 ∷ []) (tag_of the_type x)) e t)
-
 pub returns-in_default : goal.returns-in_default
-returns-in_default c = rw (other_lines _ _ _ _ _ (no_report _ c.in_default.keys2)) c.put_other.ensures
+returns-in_default c = rw (other_lines _ _ _ _ _ c.in_default.not-Decoded) c.put_other.ensures
 
 pub returns : goal.returns
 unfolding lines_of

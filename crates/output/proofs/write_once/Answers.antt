@@ -9,9 +9,10 @@ use native.Mathlib.Omega.{arith}
 use Rattle.output.proofs.Calls.{above, moved_within}
 use borrow.Author.Rules.{rules}
 use Rattle.output.proofs.write_once.Goals as goal
+use Rattle.output.proofs.write_once.Goals.{Then1}
 
 -- What a write took ends within the text.
-within : (c : goal.Then1) → c.args.count + nat_abs (to_z w64 (of_z w64 c.write-got.result)) ≤ length c.args.text.now
+within : (c : Then1) → c.args.count + nat_abs (to_z w64 (of_z w64 c.write-got.result)) ≤ length c.args.text.now
 within c =
     let s = c in
     moved_within s.args.text.now s.args.count c.write-got.result s.requires c.write-got.type-inv c.write-got.ensures c.if-got-gt0.true

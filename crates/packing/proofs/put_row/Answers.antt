@@ -23,4 +23,4 @@ pub returns : goal.returns
 returns c =
     let s = c.set_bits in
     let z = c.clear_words in
-    put_done _ _ _ _ _ _ z.ensures s.ensures (s.auto.0 ∙ z.auto.0) (room_yes _ _ _ (search rules) (search rules) (search rules))
+    put_done _ _ _ _ _ _ z.ensures s.ensures (s.auto.m ∙ z.auto.list) (room_yes _ _ _ (search rules) (search rules) (search rules))

@@ -24,7 +24,7 @@ set_bits-requires c =
     let w = c.words_for-words.result in
     let words : w ≤ 16 = omega (arith, p.0, c.words_for-words.ensures) in
     let inside : c.index-in-loop-i.result < 512 = omega (arith, p.1, c.index-in-loop-i.ensures, c.loop-i-test.true) in
-    omega (arith, apart w c.index-in-loop-i.result 512 inside, few_words 512 w (omega arith) words, p.3, c.loop-i.invariant.1, c.clear_words.auto.0)
+    omega (arith, apart w c.index-in-loop-i.result 512 inside, few_words 512 w (omega arith) words, p.3, c.loop-i.invariant.1, c.clear_words.auto.list)
 
 pub loop-i-preserved : goal.loop-i-preserved
 loop-i-preserved c =
@@ -33,13 +33,13 @@ loop-i-preserved c =
     let s = c.set_bits in
     let row = c.row_at-row in (
       omega arith,
-      s.auto.0 ∙ l.invariant.1,
+      s.auto.m ∙ l.invariant.1,
       pack_more _ _ _ _ _ _ _ _ _ _ _ c.index-in-loop-i.ensures c.words_for-words.ensures p.0 c.loop-i-test.true p.1
-          (omega (arith, p.3, l.invariant.1, c.clear_words.auto.0)) l.invariant.2 row.ensures s.ensures s.auto.0,
+          (omega (arith, p.3, l.invariant.1, c.clear_words.auto.list)) l.invariant.2 row.ensures s.ensures s.auto.m,
     )
 
 pub shape_of-work : goal.shape_of-work
-shape_of-work c = c.loop-i.invariant.1 ∙ c.clear_words.auto.0
+shape_of-work c = c.loop-i.invariant.1 ∙ c.clear_words.auto.list
 
 pub returns : goal.returns
-returns c = pack_end _ _ _ _ _ c.loop-i.i _ _ (c.loop-i.invariant.1 ∙ c.clear_words.auto.0) (omega arith) c.loop-i.invariant.2.packed
+returns c = pack_end _ _ _ _ _ c.loop-i.i _ _ (c.loop-i.invariant.1 ∙ c.clear_words.auto.list) (omega arith) c.loop-i.invariant.2.packed

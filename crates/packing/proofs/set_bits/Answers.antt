@@ -13,7 +13,7 @@ pub loop-j-preserved : goal.loop-j-preserved
 loop-j-preserved c =
     let l = c in
     let s = c.set_bit in
-    (omega arith, s.auto.0 ∙ l.loop-j.invariant.1, set_more _ _ _ _ _ _ _ (omega arith) l.loop-j.invariant.2 (rw c.index.ensures at s.ensures))
+    (omega arith, s.auto.m ∙ l.loop-j.invariant.1, set_more _ _ _ _ _ _ _ (omega arith) l.loop-j.invariant.2 (rw c.index.ensures at s.ensures))
 
 pub shape_of-m : goal.shape_of-m
 shape_of-m c = c.loop-j.invariant.1

@@ -2,12 +2,13 @@
 use borrow.Author.Rules.{rules}
 use Rattle.rack.proofs.Promising.{rack_promise}
 use Rattle.rack.proofs.rack_step.Goals as goal
+use Rattle.rack.proofs.rack_step.Goals.{After-reply}
 
 -- The call of the stream, and the state handed to it.
-abbrev stepped : goal.After-reply → goal.After-step-reply
+abbrev stepped : After-reply → goal.After-step-reply
 stepped c = c
 
-abbrev given : goal.After-reply → goal.After-state_of
+abbrev given : After-reply → goal.After-state_of
 given c = (stepped c).before.before.before.before.before.before.before.before.before.before.before.before
 
 pub shape_of-flat : goal.shape_of-flat

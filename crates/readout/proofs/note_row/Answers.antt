@@ -7,4 +7,4 @@ pub returns : goal.returns
 returns c =
     let at = c in
     let start = at in
-    notes start.args.unread start.args.x-kind _ _ _ _ _ _ _ _ _ at.element_of.ensures at.rows_of-count.ensures at.first_of-first.ensures.0 c.add.ensures
+    notes start.args.unread start.args.x_kind _ _ _ _ _ _ _ _ _ at.element_of.ensures at.rows_of-count.ensures at.first_of-first.ensures.0 c.add.ensures

@@ -15,16 +15,6 @@ returns-then-marks-size c = short_marks c.args.n c.args.marks.now c.args.m c.if-
 pub loop-q-init : goal.loop-q-init
 loop-q-init c = (search rules, search rules, refl)
 
-pub loop-q-preserved : goal.loop-q-preserved
-loop-q-preserved c =
-    let at = c in
-    let args = at.args in (
-      search rules,
-      ⊎_elim (λ x. omega arith) (λ x. omega arith) c.if-marks-q.branch,
-      ⊎_elim (λ x. x.1 ∙ marked_yes args.n args.marks.now args.m at.loop-q.q (search rules) at.loop-q.total at.loop-q.invariant.2 x.0.taken)
-          (λ x. x.1 ∙ marked_no args.n args.marks.now args.m at.loop-q.q (search rules) at.loop-q.total at.loop-q.invariant.2 x.0.left) c.if-marks-q.branch,
-    )
-
 pub returns : goal.returns
 returns c =
     let args = c.args in

@@ -42,10 +42,10 @@ pub next_row-j-requires : goal.next_row-j-requires
 next_row-j-requires c =
     let l = c.loop-j in
     let p = c.requires in
-    (l.invariant.1, (p.1.0, omega (arith, l.invariant.1), p.1.2, p.1.3, p.1.4, omega (arith, p.1.5, l.invariant.2.long, c.merge_row.auto.0)), l.invariant.3)
+    (l.invariant.1, (p.1.0, omega (arith, l.invariant.1), p.1.2, p.1.3, p.1.4, omega (arith, p.1.5, l.invariant.2.long, c.merge_row.auto.work)), l.invariant.3)
 
 pub shape_of-m-then-j-rows : goal.shape_of-m-then-j-rows
-shape_of-m-then-j-rows c = c.loop-j.invariant.2.long ∙ c.merge_row.auto.0
+shape_of-m-then-j-rows c = c.loop-j.invariant.2.long ∙ c.merge_row.auto.work
 
 pub returns-then-j-rows : goal.returns-then-j-rows
 returns-then-j-rows c =
@@ -84,7 +84,7 @@ loop-j-preserved c =
     let l = c.loop-j in
     let f = c.next_row-j in
     let within : f.result < a.rows = omega (arith, f.ensures.within, c.if-j-rows.false) in
-    let d = made_out a.w a.i f.result l.m _ _ p.1.2 (omega (arith, p.0, p.1.3)) (omega (arith, within, p.1.3)) (omega (arith, p.1.5, l.invariant.2.long, c.merge_row.auto.0)) c.add_row-in-loop-j.ensures in (
+    let d = made_out a.w a.i f.result l.m _ _ p.1.2 (omega (arith, p.0, p.1.3)) (omega (arith, within, p.1.3)) (omega (arith, p.1.5, l.invariant.2.long, c.merge_row.auto.work)) c.add_row-in-loop-j.ensures in (
       omega (arith, l.invariant.0, f.ensures.start),
       within,
       later_added a.w a.rows a.i _ a.q (omega arith) (l.j + 1) _ l.m _ f.result p.1.0 (omega (arith, l.invariant.0)) p.1.2 p.1.3 l.invariant.2 f.ensures within d,

@@ -38,7 +38,7 @@ take_column-top-requires c =
 pub shape_of-work-then-top-rows : goal.shape_of-work-then-top-rows
 shape_of-work-then-top-rows c =
     let l = c.loop-k in
-    c.take_column-top.auto.0 ∙ c.take_shortest-next.ensures.long ∙ l.invariant.2
+    c.take_column-top.auto.work ∙ c.take_shortest-next.ensures.long ∙ l.invariant.2
 
 pub returns-then-top-rows : goal.returns-then-top-rows
 returns-then-top-rows c =
@@ -48,16 +48,6 @@ returns-then-top-rows c =
     let few = fewer a.n a.w a.rows l.top l.work _ _ (search rules) (search rules) (search rules) l.invariant.1 (omega (arith, l.invariant.2)) l.invariant.3 f.ensures c.if-next-eq1024.false in
     let r = known_more a.n a.w a.rows l.top l.work _ _ (search rules) (search rules) (search rules) l.invariant.1 (omega (arith, l.invariant.2)) l.invariant.3 f.ensures few _ _ c.take_column-top.ensures l.k _ _ (omega arith) l.invariant.2 l.invariant.4 in
     knowns_empty _ _ _ _ _ _ _ r.1 r.2 r.0 r.4 c.if-top-rows.true
-
-pub loop-k-preserved : goal.loop-k-preserved
-loop-k-preserved c =
-    let l = c.loop-k in
-    let f = c.take_shortest-next in
-    let a = c.args in
-    let few = fewer a.n a.w a.rows l.top l.work _ _ (search rules) (search rules) (search rules) l.invariant.1 (omega (arith, l.invariant.2)) l.invariant.3 f.ensures c.if-next-eq1024.false in
-    ⊎_elim
-    (λ x. rw (x.6, x.7) (known_more a.n a.w a.rows l.top l.work _ _ (search rules) (search rules) (search rules) l.invariant.1 (omega (arith, l.invariant.2)) l.invariant.3 f.ensures few _ _ x.2.ensures _ _ _ (search rules) l.invariant.2 l.invariant.4))
-    (λ x. rw (x.1, x.2) (known_more a.n a.w a.rows l.top l.work _ _ (search rules) (search rules) (search rules) l.invariant.1 (omega (arith, l.invariant.2)) l.invariant.3 f.ensures few _ _ (blank a.n a.w a.rows l.top l.work _ _ (search rules) (search rules) (search rules) l.invariant.1 (omega (arith, l.invariant.2)) l.invariant.3 f.ensures few (omega arith)) _ _ _ (search rules) l.invariant.2 l.invariant.4)) c.if-next-gt0.branch
 
 pub shape_of-work : goal.shape_of-work
 shape_of-work c = c.loop-k.invariant.2

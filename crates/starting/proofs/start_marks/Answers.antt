@@ -12,16 +12,6 @@ use Rattle.starting.proofs.start_marks.Goals as goal
 pub loop-q-init : goal.loop-q-init
 loop-q-init c = (search rules, fill_none _ _)
 
-pub loop-q-preserved : goal.loop-q-preserved
-loop-q-preserved c =
-    let at = c in
-    let args = at.args in (
-      search rules,
-      fill_turn _ _ _ _ _ at.loop-q.invariant.1 (search rules)
-          (⊎_elim (λ x. x.1 ∙ lost_open args.n args.lost.now at.loop-q.q (search rules) x.0.taken)
-          (λ x. x.1 ∙ kept_unmarked args.n args.lost.now at.loop-q.q (search rules) x.0.left) c.if-lost-q-eq1.branch),
-    )
-
 pub shape_of-marks : goal.shape_of-marks
 shape_of-marks c = c.loop-q.invariant.1.long
 

@@ -12,20 +12,21 @@ use Rattle.cutting.proofs.Nexts.{next_at}
 use Rattle.taking.proofs.Calls.{took_none}
 use Rattle.taking.proofs.Loop.{turn_took, turn_going, turn_onward, turn_within}
 use Rattle.taking.proofs.all_records.Goals as goal
+use Rattle.taking.proofs.all_records.Goals.{After-answered-p, After-next_record-bytes, After-slice_known-in-loop-p-5-1, After-step-reply, In-loop-p}
 
-abbrev at-answered : goal.After-slice_known-in-loop-p-5-1 → goal.After-answered-p
+abbrev at-answered : After-slice_known-in-loop-p-5-1 → goal.After-answered-p
 at-answered c = c
 
-abbrev at-step : goal.After-answered-p → goal.After-step-reply
+abbrev at-step : After-answered-p → goal.After-step-reply
 at-step c = c
 
-abbrev at-record : goal.After-step-reply → goal.After-next_record-bytes
+abbrev at-record : After-step-reply → goal.After-next_record-bytes
 at-record c = c
 
-abbrev at_test : goal.After-next_record-bytes → goal.In-loop-p
+abbrev at_test : After-next_record-bytes → goal.In-loop-p
 at_test c = c
 
-abbrev at-loop : goal.In-loop-p → goal.At-loop-p
+abbrev at-loop : In-loop-p → goal.At-loop-p
 at-loop c = c
 
 pub loop-p-init : goal.loop-p-init

@@ -7,4 +7,4 @@ pub returns : goal.returns
 returns c =
     let s = c in
     let d = c.decimal-k in
-    puts_number s.args.n d.result _ s.ranges.n.fits d.ensures.1.0 d.ensures.1.1 c.put_byte-end.ensures c.put_text.ensures
+    puts_number s.args.n d.result _ s.ranges.n.fits d.ensures.len d.ensures.digits c.put_byte-end.ensures c.put_text.ensures

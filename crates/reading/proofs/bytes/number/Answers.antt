@@ -6,3 +6,7 @@ use Rattle.reading.proofs.bytes.number.Goals as goal
 
 pub returns-then-bytes-i : goal.returns-then-bytes-i
 returns-then-bytes-i c = number_past _ _ c.if-bytes-i.true
+
+pub returns : goal.returns
+unfolding number
+returns c = search rules

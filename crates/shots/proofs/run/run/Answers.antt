@@ -20,7 +20,7 @@ take_block-here-requires c =
     let l = c.loop-refills in
     let f = c.refill-read in
     let o : l.here.over ≡ false = c.if-not-here.true in
-    (omega (arith, f.ensures.most l.invariant.0.held, f.auto.0), (goes_on l.invariant.0 o).1, room_left c.requires l.invariant.6 l.invariant.7)
+    (omega (arith, f.ensures.most l.invariant.0.held, f.auto.block), (goes_on l.invariant.0 o).1, room_left c.requires l.invariant.6 l.invariant.7)
 
 pub overflow_sub-refills : goal.overflow_sub-refills
 overflow_sub-refills c = omega (arith, c.loop-refills-test.true)
@@ -34,8 +34,8 @@ loop-refills-preserved c =
     let r = c.take_block-here in
     let f = c.refill-read in
     let o : l.here.over ≡ false = c.if-not-here.true in
-    let g : BlockRead l.here l.block f.new.0 f.result = record { goes = o; room = goes_room l.invariant.0 o (omega (arith, l.invariant.5, c.requires.bytes)); refills = f.ensures; same = f.auto.0 } in
-    (runs_more l.invariant.0 _ f.new.0 _ r.result f.result g r.ensures c.loop-refills-test.true, r.auto.1.1.0 ∙ l.invariant.1, r.auto.1.1.1.0 ∙ l.invariant.2, r.auto.1.1.1.1.0 ∙ l.invariant.3, r.auto.1.1.1.1.1.0 ∙ l.invariant.4, r.auto.1.1.1.1.1.1.0 ∙ (f.auto.0 ∙ l.invariant.5), r.auto.1.1.1.1.1.1.1.0 ∙ l.invariant.6, r.auto.1.1.1.1.1.1.1.1.0 ∙ l.invariant.7)
+    let g : BlockRead l.here l.block f.new.0 f.result = record { goes = o; room = goes_room l.invariant.0 o (omega (arith, l.invariant.5, c.requires.bytes)); refills = f.ensures; same = f.auto.block } in
+    (runs_more l.invariant.0 _ f.new.0 _ r.result f.result g r.ensures c.loop-refills-test.true, r.auto.1.1.0 ∙ l.invariant.1, r.auto.1.1.1.0 ∙ l.invariant.2, r.auto.1.1.1.1.0 ∙ l.invariant.3, r.auto.1.1.1.1.1.0 ∙ l.invariant.4, r.auto.1.1.1.1.1.1.0 ∙ (f.auto.block ∙ l.invariant.5), r.auto.1.1.1.1.1.1.1.0 ∙ l.invariant.6, r.auto.1.1.1.1.1.1.1.1.0 ∙ l.invariant.7)
 
 pub shape_of-flat-else-not-here : goal.shape_of-flat-else-not-here
 shape_of-flat-else-not-here c = c.loop-refills.invariant.1

@@ -5,29 +5,11 @@ use mathlib.Core.Path.{refl}
 use borrow.Author.Rules.{rules}
 use Rattle.shots.proofs.run.take_block.Goals as goal
 
-pub shape_of-flat : goal.shape_of-flat
-shape_of-flat c = c.one_block-b.auto.1.1.1.1.0
-
-pub shape_of-ends : goal.shape_of-ends
-shape_of-ends c = c.one_block-b.auto.1.1.1.1.1.0
-
-pub shape_of-shot : goal.shape_of-shot
-shape_of-shot c = c.one_block-b.auto.1.1.1.1.1.1.0
-
-pub shape_of-window : goal.shape_of-window
-shape_of-window c = c.one_block-b.auto.1.1.1.1.1.1.1.0
-
 pub shape_of-block : goal.shape_of-block
-shape_of-block c = c.keep.auto.0
-
-pub shape_of-out : goal.shape_of-out
-shape_of-out c = c.one_block-b.auto.1.1.1.1.1.1.1.1.1.0
-
-pub shape_of-places : goal.shape_of-places
-shape_of-places c = c.one_block-b.auto.1.1.1.1.1.1.1.1.1.1.0
+shape_of-block c = c.keep.auto.block
 
 pub returns : goal.returns
 returns c =
     let s = c in
-    let t = block_taken s.args.here _ _ s.args.block.now _ s.args.read _ c.one_block-b.result c.keep.result s.requires.0 s.requires.1 s.requires.2 (whole_part _ _ _ _ _ _ s.args.block.now s.args.read.end _ _ c.one_block-b.ensures) c.keep.ensures c.keep.auto.0 in
+    let t = block_taken s.args.here _ _ s.args.block.now _ s.args.read _ c.one_block-b.result c.keep.result s.requires.0 s.requires.1 s.requires.2 (whole_part _ _ _ _ _ _ s.args.block.now s.args.read.end _ _ c.one_block-b.ensures) c.keep.ensures c.keep.auto.block in
     record { sent = t.0; held = t.1; left = t.2; ended = refl; over = refl; error = error_back s.args.read.error c.struct_told-1.given.1.1.0.1 }

@@ -26,17 +26,6 @@ open_rows-requires c = (c.requires.3, omega (arith, c.requires.2, c.loop-at.inva
 pub overflow_add-total : goal.overflow_add-total
 overflow_add-total c = omega (arith, reached_few _ _ _ _ _ _ _ _ _ _ c.loop-at.invariant.1, c.loop-at.invariant.0, c.requires.0)
 
-pub loop-at-preserved : goal.loop-at-preserved
-loop-at-preserved c =
-    let at = c in
-    let inside = c.loop-at-test.true in (
-      search rules,
-      ⊎_elim
-          (λ x. rw (x.8, x.9) (reached_open _ _ _ _ _ _ _ _ _ _ at.loop-at.invariant.1 inside c.requires.0 x.0.taken (sym x.1.ensures ∙ not-false _ x.2.left) _ x.3.ensures _ x.5.ensures))
-          (λ x. rw (x.1, x.2) (reached_shut _ _ _ _ _ _ _ _ _ _ at.loop-at.invariant.1 inside x.0.left))
-          c.if-marks-at-eq4.branch,
-    )
-
 pub shape_of-work : goal.shape_of-work
 shape_of-work c = c.loop-at.invariant.1.long
 
