@@ -9,6 +9,7 @@ ghost use Rattle.blocks.specs.Blocks.{begun, Emptied, Begins, Went, Done};
 use counts::Tally;
 use output::Output;
 use records::State;
+use std::io::Write;
 use taking::Progress;
 
 // How far a block is done. taken: the bytes taken. next: those of the next record, 0 where none is to be taken. over: no record follows,
@@ -24,7 +25,8 @@ pub struct Block {
 }
 
 // What is put is written. After a failed write no record is taken.
-fn flushed(
+fn flushed<W: Write>(
+    to: &mut W,
     p: Progress,
     output: Output,
     ended: bool,
@@ -39,7 +41,7 @@ fn flushed(
     let tally = p.tally;
     let put = p.put;
     let noted = p.noted;
-    let after = output::flush(output, &out[0..put], &places[0..noted]);
+    let after = output::flush(to, output, &out[0..put], &places[0..noted]);
     Block {
         state: state,
         tally: tally,
@@ -51,7 +53,9 @@ fn flushed(
 }
 
 // Takes records until there is no room for another answer, and writes their lines.
-fn one_buffer(
+fn one_buffer<W: Write, E: Write>(
+    to: &mut W,
+    errors: &mut E,
     b: Block,
     ended: bool,
     flat: &mut [u16],
@@ -68,15 +72,17 @@ fn one_buffer(
     let state = b.state;
     let tally = b.tally;
     let p = taking::take_records(
-        state, tally, b.taken, ended, flat, ends, shot, window, block, out, places,
+        errors, state, tally, b.taken, ended, flat, ends, shot, window, block, out, places,
     );
     let output = b.output;
-    flushed(p, output, ended, block, out, places)
+    flushed(to, p, output, ended, block, out, places)
 }
 
 // Takes the records of a block, and writes their lines before more is read. Nothing is taken where the output has failed or has no room
 // for an answer.
-pub fn one_block(
+pub fn one_block<W: Write, E: Write>(
+    to: &mut W,
+    errors: &mut E,
     st: State,
     tally: Tally,
     output: Output,
@@ -101,7 +107,9 @@ pub fn one_block(
         output: output,
     };
     while b.next > 0 {
-        b = one_buffer(b, ended, flat, ends, shot, window, block, out, places);
+        b = one_buffer(
+            to, errors, b, ended, flat, ends, shot, window, block, out, places,
+        );
     }
     b
 }

@@ -64,4 +64,4 @@ again_not s h e =
 
 -- The machine has an error as its bits, which are read back as they were.
 pub error_back : (z : ℤ) → mag z < 2 ^ 31 → to_z w32 (of_z w32 z) ≡ z
-error_back z b = to_z-of_z (sfits_of b)
+error_back z b = to_z-of_z {w = w32} (sfits_of b)

@@ -1,10 +1,10 @@
-// Standard input, read to a block behind the bytes that are held there.
+// Standard input, or another reader, read to a block behind the bytes that are held there.
 #![tactic(auto)]
 
 ghost use Rattle.std.specs.Prelude.{◌≡◌, ◌-◌, ◌≤◌, length, take};
 ghost use Rattle.input.specs.Reading.{Attempt, Refills, Keeps};
 
-use libc::STDIN_FILENO;
+use std::io::Read;
 
 // What one read gave. again: it gave nothing and is to be tried again. error: errno where it failed, and 0 else.
 #[derive(Clone, Copy)]
@@ -24,37 +24,31 @@ pub struct Refilled {
 }
 
 // One read to the block behind the `held` bytes.
-fn read_once(block: &mut [u8], held: usize) -> Got
+fn read_once<R: Read>(from: &mut R, block: &mut [u8], held: usize) -> Got
     requires { held ≤ length block.old }
     ensures { Attempt (length block.old - held) result × (take held block.new ≡ take held block.old) }
 {
     let end = block.len();
-    let got = libc::read(STDIN_FILENO, &mut block[held..end]);
-    if got > 0 {
-        return Got {
-            count: got as usize,
+    match from.read(&mut block[held..end]) {
+        Ok(count) => Got {
+            count: count,
             again: false,
             error: 0,
-        };
-    }
-    if got < 0 {
-        let error = os::errno();
-        return Got {
-            count: 0,
-            again: output::try_again(error),
-            error: error,
-        };
-    }
-    Got {
-        count: 0,
-        again: false,
-        error: 0,
+        },
+        Err(error) => {
+            let number = output::error_number(&error);
+            Got {
+                count: 0,
+                again: output::try_again(number),
+                error: number,
+            }
+        }
     }
 }
 
 // Reads to the block behind the `held` bytes, again where a read was interrupted or there is nothing to read for now. A proved loop has to
 // end, so the reads are counted: the last of 2^64 - 1 is not tried again, and a read that gave nothing is then the end of the input.
-pub fn refill(block: &mut [u8], held: usize) -> Refilled
+pub fn refill<R: Read>(from: &mut R, block: &mut [u8], held: usize) -> Refilled
     ensures { Refills block.old block.new held result }
 {
     if block.len() < held {
@@ -65,10 +59,10 @@ pub fn refill(block: &mut [u8], held: usize) -> Refilled
             reads: 0,
         };
     }
-    let mut got = read_once(block, held);
+    let mut got = read_once(from, block, held);
     let mut reads: u64 = 1;
     while reads < u64::MAX && got.again {
-        got = read_once(block, held);
+        got = read_once(from, block, held);
         reads += 1;
     }
     Refilled {

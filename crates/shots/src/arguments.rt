@@ -1,7 +1,7 @@
 // The program's arguments.
-ghost use Rattle.std.specs.Prelude.{◌≡◌, leb};
+ghost use Rattle.std.specs.Prelude.{◌≡◌, ◌≤◌, leb};
 
-use libc::{STDERR_FILENO, STDOUT_FILENO};
+use std::env::{Env, FillError};
 
 // Whether a text is the one that is meant.
 fn is_same(text: &[u8], meant: &[u8]) -> bool {
@@ -19,64 +19,75 @@ fn is_same(text: &[u8], meant: &[u8]) -> bool {
 }
 
 // What `--help` tells.
-fn tell_help() {
-    io::write_all(STDOUT_FILENO, b"usage: shots < RECORDS\n");
-    io::write_all(
-        STDOUT_FILENO,
-        b"Reads records of a code and its shots from standard input, and writes a line for each complete code, each half\n",
+fn tell_help(rt: &impl Print) {
+    let _ = rt.println("usage: shots < RECORDS");
+    let _ = rt.println(
+        "Reads records of a code and its shots from standard input, and writes a line for each complete code, each half",
     );
-    io::write_all(
-        STDOUT_FILENO,
-        b"of a decode and each refused record to standard output. Standard error tells what is wrong and where.\n",
+    let _ = rt.println(
+        "of a decode and each refused record to standard output. Standard error tells what is wrong and where.",
     );
-    io::write_all(STDOUT_FILENO, b"  --help     tells this\n");
-    io::write_all(
-        STDOUT_FILENO,
-        b"  --version  tells the version of the records\n",
-    );
+    let _ = rt.println("  --help     tells this");
+    let _ = rt.println("  --version  tells the version of the records");
 }
 
 // What `--version` tells.
-fn tell_version() {
-    io::write_all(STDOUT_FILENO, b"shots ");
-    io::print_decimal(STDOUT_FILENO, records::VERSION as u64);
-    io::write_all(STDOUT_FILENO, b"\n");
+fn tell_version(rt: &impl Print) {
+    let _ = println!(rt; "shots {}", records::VERSION);
 }
 
 // What any other argument is told.
-fn tell_unknown() {
-    io::write_all(
-        STDERR_FILENO,
-        b"shots: takes no argument but --help or --version; records are read from standard input\n",
+fn tell_unknown(rt: &impl Eprint) {
+    let _ = rt.eprintln(
+        "shots: takes no argument but --help or --version; records are read from standard input",
     );
 }
 
+// Whether the program has the argument `i`; argument 0 is its own name.
+fn is_given(rt: &impl Env, i: usize) -> bool {
+    let mut buffer = [0u8; 16];
+    !matches!(rt.arg(i, &mut buffer), Err(FillError::NotPresent))
+}
+
+// How many arguments the program has, its own name among them; three where there are more.
+pub fn count(rt: &impl Env) -> usize
+    ensures { result ≤ 3 }
+{
+    if is_given(rt, 2) {
+        return 3;
+    }
+    if is_given(rt, 1) {
+        return 2;
+    }
+    1
+}
+
 // Whether the program has arguments, of which the first is its own name; `--help` and `--version` are answered, and any other one too.
-pub fn answered(count: usize) -> bool
+pub fn answered(rt: &(impl Env + Print + Eprint), count: usize) -> bool
     ensures { result ≡ leb 2 count }
 {
     if count < 2 {
         return false;
     }
-    answer(count);
+    answer(rt, count);
     true
 }
 
 // The answer to the arguments.
-fn answer(count: usize) {
+fn answer(rt: &(impl Env + Print + Eprint), count: usize) {
     let mut buffer = [0u8; 16];
-    let n = os::arg(1, &mut buffer);
+    let n = rt.arg(1, &mut buffer).unwrap_or(0);
     if count > 2 {
-        tell_unknown();
+        tell_unknown(rt);
         return;
     }
     if is_same(&buffer[..n], b"--help") {
-        tell_help();
+        tell_help(rt);
         return;
     }
     if is_same(&buffer[..n], b"--version") {
-        tell_version();
+        tell_version(rt);
         return;
     }
-    tell_unknown();
+    tell_unknown(rt);
 }

@@ -6,15 +6,19 @@ mod run;
 
 // The lists of code, shot and window at their least lengths, the blocks in which the program reads and writes, and places for the records that a
 // block of output answers.
-fn read_records() {
+fn read_records(rt: HostRuntime) {
     let mut flat = [0u16; 16384];
     let mut ends = [0u16; 16384];
     let mut shot = [0u8; 2048];
     let mut window = [0u16; 2560];
-    let mut input = io::large_buffer();
-    let mut out = io::large_buffer();
+    let mut input = [0u8; 65536];
+    let mut out = [0u8; 65536];
     let mut places = [0usize; 16384];
+    let mut errors = rt.stderr();
     let end = run::run(
+        &mut rt.stdin(),
+        &mut rt.stdout(),
+        &mut errors,
         &mut flat,
         &mut ends,
         &mut shot,
@@ -23,13 +27,13 @@ fn read_records() {
         &mut out,
         &mut places,
     );
-    run::tell(end);
+    run::tell(&mut errors, end);
 }
 
 // An argument is answered, and nothing is read.
-fn main() {
-    if arguments::answered(os::arg_count()) {
+fn main(rt: HostRuntime) {
+    if arguments::answered(&rt, arguments::count(&rt)) {
         return;
     }
-    read_records();
+    read_records(rt);
 }

@@ -8,6 +8,7 @@ use counts::Tally;
 use input::Refilled;
 use output::Output;
 use records::State;
+use std::io::{Read, Write};
 
 // What passes from block to block: the state, the counts, how many bytes are held at the front of the next one, and what is written.
 // last: the records are over. ended: no more bytes come. over: nothing more is read. error: errno where the last read failed, and 0 else.
@@ -24,7 +25,9 @@ pub struct Between {
 }
 
 // Takes the records of the bytes held and read, and holds what is left.
-fn take_block(
+fn take_block<W: Write, E: Write>(
+    to: &mut W,
+    errors: &mut E,
     here: Between,
     read: Refilled,
     flat: &mut [u16],
@@ -43,6 +46,8 @@ fn take_block(
     let output = here.output;
     let end = read.end;
     let b = blocks::one_block(
+        to,
+        errors,
         st,
         tally,
         output,
@@ -72,7 +77,10 @@ fn take_block(
 
 // Block after block to the end: of the input, after refusal 1 or a record that is cut off, or at a write that failed. A proved loop has to
 // end, so the refills are counted down; each that does not end the run brings a byte, so that no input of up to 2^63 bytes uses them up.
-pub fn run(
+pub fn run<R: Read, W: Write, E: Write>(
+    from: &mut R,
+    to: &mut W,
+    errors: &mut E,
     flat: &mut [u16],
     ends: &mut [u16],
     shot: &mut [u8],
@@ -111,21 +119,23 @@ pub fn run(
     };
     let mut refills = u64::MAX;
     while refills > 0 && !here.over {
-        let read = input::refill(block, here.held);
-        here = take_block(here, read, flat, ends, shot, window, block, out, places);
+        let read = input::refill(from, block, here.held);
+        here = take_block(
+            to, errors, here, read, flat, ends, shot, window, block, out, places,
+        );
         refills -= 1;
     }
     here
 }
 
-// Tells standard error how the run ended.
-pub fn tell(end: Between) {
+// Tells how the run ended.
+pub fn tell<E: Write>(errors: &mut E, end: Between) {
     let state = end.state;
     let tally = end.tally;
     let output = end.output;
-    telling::tell_end(tally, state);
-    telling::tell_read(end.error);
+    telling::tell_end(errors, tally, state);
+    telling::tell_read(errors, end.error);
     if output.failed {
-        telling::tell_write(output.bytes, output.records);
+        telling::tell_write(errors, output.bytes, output.records);
     }
 }

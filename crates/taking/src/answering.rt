@@ -5,6 +5,7 @@ ghost use Rattle.taking.specs.Progress.{record_at, Ready, Answered};
 use crate::Progress;
 use cutting::{is_full, is_last, next_length};
 use records::Reply;
+use std::io::Write;
 
 // The part of a block that the next record occupies.
 pub fn next_record<'a>(p: Progress, block: &'a [u8]) -> &'a [u8]
@@ -16,8 +17,9 @@ pub fn next_record<'a>(p: Progress, block: &'a [u8]) -> &'a [u8]
     &block[at..end]
 }
 
-// The next record is answered: its lines are put to the output, and a refusal that begins a run is told to standard error. x, z: the corrections of the halves. most: the records that have a place.
-pub fn answered(
+// The next record is answered: its lines are put to the output, and a refusal that begins a run is told to `errors`. x, z: the corrections of the halves. most: the records that have a place.
+pub fn answered<E: Write>(
+    errors: &mut E,
     p: Progress,
     ended: bool,
     reply: Reply,
@@ -35,7 +37,7 @@ pub fn answered(
     let sizes = state.sizes;
     let bytes = next_record(p, block);
     let old = p.state;
-    telling::tell_refusal(p.tally, old, answer, bytes);
+    telling::tell_refusal(errors, p.tally, old, answer, bytes);
     let tally = counts::add(p.tally, bytes.len(), answer);
     let lines = lines::put_answer(out, p.put, answer, bytes[0], x, z, sizes.n);
     let over = is_last(answer);

@@ -10,6 +10,7 @@ ghost use Rattle.taking.specs.Progress.{begin_of, Going, Filled};
 use counts::Tally;
 use cutting::{is_full, next_length};
 use records::State;
+use std::io::Write;
 
 // How far a block is done. taken: the bytes of input taken. next: those of the next record, 0 where none is to be taken before what is put
 // is written. put: the bytes of output put. noted: the records that they answer. over: no record follows, here or in a later block.
@@ -48,7 +49,8 @@ fn begin(
 }
 
 // Takes record after record, with lists for their decodes.
-fn all_records(
+fn all_records<E: Write>(
+    errors: &mut E,
     mut p: Progress,
     ended: bool,
     flat: &mut [u16],
@@ -90,6 +92,7 @@ fn all_records(
             bytes,
         );
         p = answering::answered(
+            errors,
             p,
             ended,
             reply,
@@ -105,8 +108,9 @@ fn all_records(
 }
 
 // Takes the records that a block holds whole from byte `from` on and, where the input has ended, one that is cut off, as long as there is
-// room for another answer. places: where the lines of each record end.
-pub fn take_records(
+// room for another answer. errors: what is told of refusals. places: where the lines of each record end.
+pub fn take_records<E: Write>(
+    errors: &mut E,
     st: State,
     tally: Tally,
     from: usize,
@@ -122,5 +126,7 @@ pub fn take_records(
     ensures { Filled ended (begin_of st tally from ended block.now (length out.old) (length places.old)) (passed flat.old ends.old shot.old window.old) (passed flat.new ends.new shot.new window.new) block.now out.new places.new result }
 {
     let p = begin(st, tally, from, ended, block, out.len(), places.len());
-    all_records(p, ended, flat, ends, shot, window, block, out, places)
+    all_records(
+        errors, p, ended, flat, ends, shot, window, block, out, places,
+    )
 }

@@ -1,7 +1,7 @@
 // A line, put together from its start.
 ghost use Rattle.std.specs.Prelude.{◌≤◌, length};
 
-use libc::STDERR_FILENO;
+use std::io::Write;
 
 // A text more.
 pub fn add(line: &mut [u8], at: usize, text: &[u8]) -> usize
@@ -41,10 +41,15 @@ pub fn add_count(line: &mut [u8], at: usize, text: &[u8], n: u64, name: &[u8]) -
     add(line, end, b"s")
 }
 
-// Ends the line, and tells it. A failure to do so is passed over.
-pub fn tell(line: &mut [u8], at: usize)
+// Tells a text. A failure to do so is passed over.
+pub fn say<W: Write>(to: &mut W, text: &[u8]) {
+    let _ = to.write_all(text);
+}
+
+// Ends the line, and tells it.
+pub fn tell<W: Write>(to: &mut W, line: &mut [u8], at: usize)
     requires { at ≤ length line.old }
 {
     let end = add(line, at, b"\n");
-    io::write_all(STDERR_FILENO, &line[0..end]);
+    say(to, &line[0..end]);
 }

@@ -5,7 +5,7 @@ use borrow.Author.Rules.{rules}
 use Rattle.blocks.proofs.flushed.Goals as goal
 
 pub returns : goal.returns
-returns c =
+returns g c =
     record {
       state = refl;
       tally = refl;

@@ -7,7 +7,7 @@ use Rattle.closing.proofs.ClosingRows.{ClosingAll, all_start, all_failed, all_tu
 use Rattle.closing.proofs.close.Given as goal
 
 abbrev pub invariant-loop-i : goal.invariant-loop-i
-invariant-loop-i l = ClosingAll l.n (record { l.flat = l.flat; l.ends = l.ends; l.lit = l.lit; l.first = l.first; l.count = l.count }) l.p.0 l.live l.initial.forms l.initial.work l.i l.left l.forms l.work
+invariant-loop-i l = ClosingAll l.n (record { flat = l.flat; ends = l.ends; lit = l.lit; first = l.first; count = l.count }) l.p.0 l.live l.initial.forms l.initial.work l.i l.left l.forms l.work
 
 abbrev pub decreases-loop-i : goal.decreases-loop-i
 decreases-loop-i l = l.count - l.i

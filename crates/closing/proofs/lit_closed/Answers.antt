@@ -5,6 +5,7 @@ use native.Mathlib.Omega.{arith}
 use mathlib.Core.Logic.{⊎_elim}
 use Rattle.closing.proofs.TakingRows.{PassedRows, passed_none, rows_more, lit_refused, lit_found, lit_none}
 use Rattle.closing.proofs.lit_closed.Goals as goal
+use Rattle.closing.proofs.lit_closed.Goals.{then-lit-first-eq1+else-work-i-eq0, else-lit-first-eq1}
 
 pub returns-then-lit-first : goal.returns-then-lit-first
 returns-then-lit-first c = lit_refused _ _ _ _ (λ a b d. omega (arith, c.if-lit-first.true))
@@ -23,3 +24,13 @@ returns-then-work-i-eq0 c = lit_found _ _ _ _ (omega arith) (omega arith) (omega
 
 pub returns : goal.returns
 returns c = lit_none _ _ _ _ (omega arith) (omega arith) (omega arith) _ c.loop-i.invariant.1 (omega (arith, c.loop-i-test.false))
+
+pub loop-i-preserved : goal.loop-i-preserved
+loop-i-preserved c = (
+  search rules,
+  rows_more _ _ _ _ _ c.loop-i-test.true c.loop-i.invariant.1
+      (elim c.if-lit-first-eq1.branch [
+          then-lit-first-eq1+else-work-i-eq0 w ↦ λ a e. w.if-work-i-eq0.false e
+        | else-lit-first-eq1 w ↦ λ a e. w.if-lit-first-eq1.false a
+      ]),
+)

@@ -7,6 +7,7 @@ use borrow.Author.Rules.{rules}
 use borrow.Author.Tests.{not-false}
 use Rattle.filling.proofs.KeptQubits.{qubits_not, Reached, reached_none, reached_shut, reached_open, reached_past, reached_all}
 use Rattle.filling.proofs.by_qubits.Goals as goal
+use Rattle.filling.proofs.by_qubits.Goals.{then-marks-q-eq4+else-not-keep_qubit, else-marks-q-eq4}
 
 pub returns-then-marks-n : goal.returns-then-marks-n
 returns-then-marks-n c = qubits_not _ _ _ _ _ _ _ _ refl (λ k h. refl)
@@ -30,3 +31,14 @@ pub returns : goal.returns
 returns c =
     let start = c in
     reached_all _ _ _ _ _ _ _ start.requires.0 start.requires.1 _ _ c.loop-q.invariant.1 (omega (arith, c.loop-q-test.false)) _ _ start.requires.2 c.clear_words.ensures c.find_dangling.ensures
+
+pub loop-q-preserved : goal.loop-q-preserved
+loop-q-preserved c =
+    let reached = c.loop-q.invariant.1 in
+    let inside = c.loop-q-test.true in (
+      search rules,
+      elim c.if-marks-q-eq4.branch [
+          then-marks-q-eq4+else-not-keep_qubit w ↦ rw w.work-is (reached_open _ _ _ _ _ _ _ c.requires.0 c.requires.1 _ _ reached inside w.if-marks-q-eq4.true _ _ w.if-not-keep_qubit.false w.keep_qubit.ensures)
+        | else-marks-q-eq4 w ↦ rw w.work-is (reached_shut _ _ _ _ _ _ _ c.requires.0 c.requires.1 _ _ reached inside w.if-marks-q-eq4.false)
+      ],
+    )

@@ -17,7 +17,7 @@ keep_row-requires c =
     let start = c in
     let same = c.loop-i.invariant.1 in
     let emptied = c.empty_sets.ensures.long in
-    ((start.requires.0, start.requires.1, search rules, omega (arith, start.requires.2, same, emptied), start.requires.3, start.requires.4), c.loop-i.invariant.3)
+    record { n_bound = (start.requires.0, start.requires.1, search rules, omega (arith, start.requires.2, same, emptied), start.requires.3, start.requires.4); kept_to = c.loop-i.invariant.3 }
 
 pub loop-i-preserved : goal.loop-i-preserved
 loop-i-preserved c = (search rules, c.keep_row.ensures.0 ∙ c.loop-i.invariant.1, (λ k h. c.keep_row.ensures.1 k h ∙ c.loop-i.invariant.2 k h), rw (add-one c.loop-i.i) c.keep_row.ensures.2)

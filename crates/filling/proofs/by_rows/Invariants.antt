@@ -10,7 +10,7 @@ use Rattle.filling.proofs.KeptRows.{kept_start, kept_all}
 use Rattle.filling.proofs.by_rows.Given as goal
 
 abbrev pub invariant-loop-i : goal.invariant-loop-i
-invariant-loop-i l = (l.i ≤ l.count) × (length l.work ≡ length l.initial.work) × Beyond l.initial.work l.work × KeptTo l.i l.n (record { l.flat = l.flat; l.ends = l.ends; l.lit = l.lit; first = l.rows.first.0; l.count = l.count }) l.marks l.work
+invariant-loop-i l = (l.i ≤ l.count) × (length l.work ≡ length l.initial.work) × Beyond l.initial.work l.work × KeptTo l.i l.n (record { flat = l.flat; ends = l.ends; lit = l.lit; first = l.rows.first.0; count = l.count }) l.marks l.work
 
 abbrev pub decreases-loop-i : goal.decreases-loop-i
 decreases-loop-i l = l.count - l.i

@@ -7,8 +7,6 @@ use borrow.Author.Rules.{rules}
 use Rattle.filling.proofs.KeptRows.{Emptying, emptying_start, emptying_open, emptying_not, emptying_end}
 use Rattle.filling.proofs.empty_sets.Goals as goal
 
-)
-
 pub loop-q-init : goal.loop-q-init
 loop-q-init c = (search rules, emptying_start _ _ _)
 

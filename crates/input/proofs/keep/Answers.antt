@@ -1,11 +1,9 @@
 -- `input::keep` meets its contract. Assumes nothing.
 use mathlib.Core.Path.{sym}
 use Rattle.input.proofs.Moving.{kept_more}
-use lib.ListN.{length, take, drop}
 use borrow.Author.Rules.{rules}
 use native.Mathlib.Omega.{arith}
-use Prim.Native.Nat.{◌-◌, ◌≤◌}
-use mathlib.Core.List.{◌++◌}
+use Prim.Native.Nat.{◌-◌}
 use mathlib.Core.Path.{◌≡◌, refl}
 use Rattle.input.proofs.keep.Goals as goal
 

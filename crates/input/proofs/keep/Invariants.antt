@@ -1,12 +1,8 @@
 -- `input::keep` meets its contract. Assumes nothing.
-use mathlib.Core.Path.{sym}
-use Rattle.input.proofs.Moving.{kept_more}
 use lib.ListN.{length, take, drop}
-use borrow.Author.Rules.{rules}
-use native.Mathlib.Omega.{arith}
 use Prim.Native.Nat.{◌-◌, ◌≤◌}
 use mathlib.Core.List.{◌++◌}
-use mathlib.Core.Path.{◌≡◌, refl}
+use mathlib.Core.Path.{◌≡◌}
 use Rattle.input.proofs.keep.Given as goal
 
 abbrev pub invariant-loop-i : goal.invariant-loop-i

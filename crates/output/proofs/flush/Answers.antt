@@ -1,14 +1,13 @@
 -- `output::flush` meets its contract. Assumes nothing.
 use mathlib.Core.Path.{refl}
 use Rattle.output.proofs.Counting.{never}
-use borrow.Author.Rules.{rules}
 use Rattle.output.proofs.flush.Goals as goal
 
 pub returns-then-output : goal.returns-then-output
-returns-then-output c = record { flushed = record { shut = λ e. refl; taken = λ e. absurd (never _ c.if-output.true e) }; writes = λ e. absurd (never _ c.if-output.true e) }
+returns-then-output g c = record { flushed = record { shut = λ e. refl; taken = λ e. absurd (never _ c.if-output.true e) }; writes = λ e. absurd (never _ c.if-output.true e) }
 
 pub returns : goal.returns
-returns c =
+returns g c =
     record {
       flushed = record {
         shut = λ e. absurd (never _ e c.if-output.false);

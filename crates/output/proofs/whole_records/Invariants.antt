@@ -1,8 +1,6 @@
 -- `output::whole_records` meets its contract. Assumes nothing.
 use Prim.Native.Nat.{ℕ, ◌-◌, ◌≤◌, ◌<◌}
 use lib.ListN.{length, get_or}
-use borrow.Author.Count.{below_more}
-use borrow.Author.Rules.{rules}
 use Rattle.output.proofs.whole_records.Given as goal
 
 abbrev pub invariant-loop-i : goal.invariant-loop-i

@@ -1,7 +1,7 @@
 -- `peeling::peels_away` meets its contract: so many open qubits are left. Assumes nothing.
 use borrow.Author.Rules.{rules}
-use mathlib.Core.Path.{◌≡◌, ◌∙◌}
-use mathlib.Core.Bool.{true}
+use mathlib.Core.Path.{◌≡◌, ◌∙◌, ap}
+use mathlib.Core.Bool.{true, not}
 use native.Mathlib.Omega.{arith}
 use lib.ListN.{length}
 use Rattle.peeling.specs.Peeling.{enough?}
@@ -9,10 +9,10 @@ use Rattle.peeling.proofs.Steps.{Goes, room, enough_told, peels_refused, goes_st
 use Rattle.peeling.proofs.peels_away.Goals as goal
 
 pub returns-then-not-is_enough : goal.returns-then-not-is_enough
-returns-then-not-is_enough c = peels_refused _ _ _ _ _ (record { marks = c.args.marks.now; work = c.args.work.now }) _ c.is_enough.ensures c.if-not-is_enough.true
+returns-then-not-is_enough c = peels_refused _ _ _ _ _ (record { marks = c.args.marks.now; work = c.args.work.now }) _ c.is_enough.ensures (ap not c.if-not-is_enough.true)
 
 pub loop-left-init : goal.loop-left-init
-loop-left-init c = let f = enough_told _ _ _ _ _ _ c.is_enough.ensures c.if-not-is_enough.false in (f, goes_start _ _ _ _ _ (record { marks = c.args.marks.now; work = c.args.work.now }) _ f c.count_marks-left.ensures)
+loop-left-init c = let f = enough_told _ _ _ _ _ _ c.is_enough.ensures (ap not c.if-not-is_enough.false) in (f, goes_start _ _ _ _ _ (record { marks = c.args.marks.now; work = c.args.work.now }) _ f c.count_marks-left.ensures)
 
 pub peel_one-requires : goal.peel_one-requires
 peel_one-requires c =
@@ -27,10 +27,10 @@ pub shape_of-work-then-not-peel_one : goal.shape_of-work-then-not-peel_one
 shape_of-work-then-not-peel_one c = c.peel_one.ensures.stays.work_long ∙ c.loop-left.invariant.1.stays.work_long
 
 pub returns-then-not-peel_one : goal.returns-then-not-peel_one
-returns-then-not-peel_one c = peels_stuck _ _ _ _ _ (record { marks = c.args.marks.now; work = c.args.work.now }) _ _ c.loop-left.invariant.1 c.loop-left.invariant.0 c.loop-left-test.true _ _ c.peel_one.ensures c.if-not-peel_one.true
+returns-then-not-peel_one c = peels_stuck _ _ _ _ _ (record { marks = c.args.marks.now; work = c.args.work.now }) _ _ c.loop-left.invariant.1 c.loop-left.invariant.0 c.loop-left-test.true _ _ c.peel_one.ensures (ap not c.if-not-peel_one.true)
 
 pub loop-left-preserved : goal.loop-left-preserved
-loop-left-preserved c = (c.loop-left.invariant.0, goes_on _ _ _ _ _ (record { marks = c.args.marks.now; work = c.args.work.now }) _ _ c.loop-left.invariant.1 c.loop-left.invariant.0 c.loop-left-test.true _ _ c.peel_one.ensures c.if-not-peel_one.false)
+loop-left-preserved c = (c.loop-left.invariant.0, goes_on _ _ _ _ _ (record { marks = c.args.marks.now; work = c.args.work.now }) _ _ c.loop-left.invariant.1 c.loop-left.invariant.0 c.loop-left-test.true _ _ c.peel_one.ensures (ap not c.if-not-peel_one.false))
 
 pub shape_of-marks : goal.shape_of-marks
 shape_of-marks c = c.loop-left.invariant.1.stays.marks_long

@@ -1,5 +1,6 @@
 -- `search::mark_fixed` meets its contract. Assumes nothing.
-use mathlib.Core.Path.{sym, ◌∙◌}
+use mathlib.Core.Bool.{not}
+use mathlib.Core.Path.{ap, sym, ◌∙◌}
 use native.Mathlib.Omega.{arith}
 use borrow.Author.Tests.{not-false}
 use Rattle.search.proofs.Marked.{enough_out, started, sound_start, not_marked, all_marked}
@@ -7,7 +8,7 @@ use borrow.Author.Rules.{rules}
 use Rattle.search.proofs.mark_fixed.Goals as goal
 
 pub returns-then-not-long_enough : goal.returns-then-not-long_enough
-returns-then-not-long_enough c = not_marked _ _ _ _ _ _ c.long_enough.ensures c.if-not-long_enough.true
+returns-then-not-long_enough c = not_marked _ _ _ _ _ _ c.long_enough.ensures (ap not c.if-not-long_enough.true)
 
 pub take_known-known-requires : goal.take_known-known-requires
 take_known-known-requires c =

@@ -9,6 +9,7 @@ use Rattle.search.specs.Route.{steps}
 use Rattle.search.specs.Search.{stand_of, Sound}
 use Rattle.search.proofs.Knowns.{none_taken, fewer, column_in, as_counted, blank, known_more, knowns_end, knowns_idle, knowns_empty}
 use Rattle.search.proofs.take_known.Goals as goal
+use Rattle.search.proofs.take_known.Goals.{then-next-gt0+else-top-rows, else-next-gt0}
 
 pub loop-k-init : goal.loop-k-init
 loop-k-init c = (omega arith, omega arith, refl, search rules, refl)
@@ -56,3 +57,14 @@ pub returns : goal.returns
 returns c =
     let l = c.loop-k in
     knowns_end _ _ _ _ _ _ _ l.invariant.1 l.invariant.2 l.invariant.0 l.invariant.4 (omega arith)
+
+pub loop-k-preserved : goal.loop-k-preserved
+loop-k-preserved c =
+    let l = c.loop-k in
+    let f = c.take_shortest-next in
+    let a = c.args in
+    let few = fewer a.n a.w a.rows l.top l.work _ _ (search rules) (search rules) (search rules) l.invariant.1 (omega (arith, l.invariant.2)) l.invariant.3 f.ensures c.if-next-eq1024.false in
+    elim c.if-next-gt0.branch [
+        then-next-gt0+else-top-rows w ↦ rw (w.work-is, w.top-is) (known_more a.n a.w a.rows l.top l.work _ _ (search rules) (search rules) (search rules) l.invariant.1 (omega (arith, l.invariant.2)) l.invariant.3 f.ensures few _ _ w.take_column-top.ensures _ _ _ (search rules) l.invariant.2 l.invariant.4)
+      | else-next-gt0 w ↦ rw (w.work-is, w.top-is) (known_more a.n a.w a.rows l.top l.work _ _ (search rules) (search rules) (search rules) l.invariant.1 (omega (arith, l.invariant.2)) l.invariant.3 f.ensures few _ _ (blank a.n a.w a.rows l.top l.work _ _ (search rules) (search rules) (search rules) l.invariant.1 (omega (arith, l.invariant.2)) l.invariant.3 f.ensures few (omega arith)) _ _ _ (search rules) l.invariant.2 l.invariant.4)
+    ]

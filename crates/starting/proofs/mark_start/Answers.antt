@@ -12,7 +12,7 @@ returns-then-not-can_search c = marks_not _ _ _ _ _ _ _ _ (sym c.can_search.ensu
 pub start_marks-requires : goal.start_marks-requires
 start_marks-requires c =
     let f = searchable_out (sym c.can_search.ensures ∙ c.if-not-can_search.false) in
-    (omega arith, omega arith)
+    record { n_in_bounds = omega arith; n_bound = omega arith }
 
 pub search_fixed-requires : goal.search_fixed-requires
 search_fixed-requires c =

@@ -6,7 +6,7 @@ use borrow.Author.Rules.{rules}
 use Rattle.starting.proofs.open_marks.Goals as goal
 
 pub start_marks-requires : goal.start_marks-requires
-start_marks-requires c = let both = and_out _ _ c.if-size-lost.true in (leb-true _ _ both.0, leb-true _ _ both.1)
+start_marks-requires c = let both = and_out _ _ c.if-size-lost.true in record { n_in_bounds = leb-true _ _ both.0; n_bound = leb-true _ _ both.1 }
 
 pub returns-then-size-lost : goal.returns-then-size-lost
 returns-then-size-lost c = let both = and_out _ _ c.if-size-lost.true in opens_made _ _ _ (leb-true _ _ both.0, leb-true _ _ both.1) _ c.start_marks.ensures

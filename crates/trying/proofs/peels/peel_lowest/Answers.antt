@@ -19,7 +19,7 @@ pub returns-then-not-is_open : goal.returns-then-not-is_open
 returns-then-not-is_open c = peels_unknown _ _ _ _ _ _ _ _ c.lowest-i.ensures (omega arith) (stays_same _ _) (λ q. refl)
 
 pub settle-requires : goal.settle-requires
-settle-requires c = ((c.requires.0, c.requires.1, c.requires.2, c.requires.3, c.requires.4), (open_below_lem c.args.n c.args.marks.now _ (sym c.is_open.ensures ∙ c.if-not-is_open.false), omega arith))
+settle-requires c = record { n_bound = (c.requires.0, c.requires.1, c.requires.2, c.requires.3, c.requires.4); p_lt_n = (open_below_lem c.args.n c.args.marks.now _ (sym c.is_open.ensures ∙ c.if-not-is_open.false), omega arith) }
 
 pub returns-then-not-settle : goal.returns-then-not-settle
 returns-then-not-settle c =

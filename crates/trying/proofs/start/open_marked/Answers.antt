@@ -7,6 +7,7 @@ use borrow.Author.Tests.{not-false}
 use Rattle.trying.proofs.Starting.{Reached, reached_none, reached_few, reached_open, reached_shut, reached_not, reached_all}
 use borrow.Author.Rules.{rules}
 use Rattle.trying.proofs.start.open_marked.Goals as goal
+use Rattle.trying.proofs.start.open_marked.Goals.{then-marks-at-eq4+else-not-is_listed, else-marks-at-eq4}
 
 pub loop-at-init : goal.loop-at-init
 loop-at-init c = (search rules, reached_none _ _ _ _ _ _ _)
@@ -31,3 +32,14 @@ shape_of-work c = c.loop-at.invariant.1.long
 
 pub returns : goal.returns
 returns c = reached_all _ _ _ _ _ _ _ _ _ _ c.loop-at.invariant.1 c.loop-at.invariant.0 (omega (arith, c.loop-at-test.false))
+
+pub loop-at-preserved : goal.loop-at-preserved
+loop-at-preserved c =
+    let l = c.loop-at in
+    let inside = c.loop-at-test.true in (
+      search rules,
+      elim c.if-marks-at-eq4.branch [
+          then-marks-at-eq4+else-not-is_listed w ↦ rw (w.work-is, w.total-is) (reached_open _ _ _ _ _ _ _ _ _ _ l.invariant.1 inside c.requires.0 w.if-marks-at-eq4.true (sym w.is_listed.ensures ∙ w.if-not-is_listed.false) _ w.rows_on.ensures _ w.open_rows.ensures)
+        | else-marks-at-eq4 w ↦ rw (w.work-is, w.total-is) (reached_shut _ _ _ _ _ _ _ _ _ _ l.invariant.1 inside w.if-marks-at-eq4.false)
+      ],
+    )

@@ -7,7 +7,7 @@ use Rattle.turns.proofs.half.go_on_marked.Goals as goal
 pub run-ended-requires : goal.run-ended-requires
 run-ended-requires c =
     let s = c in
-    let p = s.requires in (p.0, (search rules, p.1, counted_as _ s.args.marks.now 4 _ p.0.1 c.count_marks-unsettled.ensures))
+    let p = s.requires in record { n_bound = p.n_bound; budget_bound = (search rules, p.made_le_limit, counted_as _ s.args.marks.now 4 _ p.n_bound.1 c.count_marks-unsettled.ensures) }
 
 pub returns : goal.returns
 returns c =

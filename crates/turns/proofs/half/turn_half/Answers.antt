@@ -13,10 +13,7 @@ returns-then-lit_closed c =
 pub run-requires : goal.run-requires
 run-requires c =
     let s = c in
-    let p = s.requires in (
-      (p.0, p.1, omega (arith, p.2, c.clear_words.ensures.long), p.3, p.4, p.5, p.6),
-      (search rules, zero-le, counted_as _ s.args.marks.now 4 _ p.1 c.count_marks-unsettled.ensures),
-    )
+    let p = s.requires in record { n_bound = (p.0, p.1, omega (arith, p.2, c.clear_words.ensures.long), p.3, p.4, p.5, p.6); budget_bound = (search rules, zero-le, counted_as _ s.args.marks.now 4 _ p.1 c.count_marks-unsettled.ensures) }
 
 pub returns : goal.returns
 returns c =

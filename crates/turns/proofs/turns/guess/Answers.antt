@@ -9,7 +9,7 @@ pub settle-requires : goal.settle-requires
 settle-requires c =
     let s = c in
     let p = s.requires.n_bound in
-    ((p.0, p.1, omega (arith, p.2, c.put_guess.ensures.long), p.3, p.4, p.5, p.6), (s.requires.p_lt_n.0, s.requires.p_lt_n.1, refl))
+    record { n_bound = (p.0, p.1, omega (arith, p.2, c.put_guess.ensures.long), p.3, p.4, p.5, p.6); p_lt_n = (s.requires.p_lt_n.0, s.requires.p_lt_n.1, refl) }
 
 pub shape_of-work : goal.shape_of-work
 shape_of-work c = c.settle.ensures.stays.work_long

@@ -19,7 +19,7 @@ pub peel-taken-requires : goal.peel-taken-requires
 peel-taken-requires c =
     let start = c in
     let is_open_lem = c.first_open-at.ensures.found (omega (arith, c.if-row-at.false)) in
-    (start.requires.n_bound, (open_below_lem _ start.args.marks.now _ is_open_lem, is_open_lem, omega (arith, start.requires.n_bound.5, c.if-rows-i.false)))
+    record { n_bound = start.requires.n_bound; p_lt_n = (open_below_lem _ start.args.marks.now _ is_open_lem, is_open_lem, omega (arith, start.requires.n_bound.5, c.if-rows-i.false)) }
 
 pub returns : goal.returns
 returns c = moved_peel _ _ _ _ _ (record { marks = c.args.marks.now; forms = c.args.forms.now; work = c.args.work.now }) _ _ c.lowest-i.ensures (omega (arith, c.requires.n_bound.3)) (omega (arith, c.if-rows-i.false)) _ c.row_at-row.ensures _ c.first_open-at.ensures _ refl _ c.peel-taken.ensures

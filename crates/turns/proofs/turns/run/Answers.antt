@@ -23,10 +23,7 @@ returns-then-turns-limit c = goes_stopped _ _ _ _ _ _ _ (record { marks = c.loop
 pub make_turn-moved-requires : goal.make_turn-moved-requires
 make_turn-moved-requires c =
     let s = c.loop-left.invariant.stays in
-    let p = c.requires.n_bound in (
-      (p.0, omega (arith, p.1, s.marks_long), omega (arith, p.2, s.forms_long), omega (arith, p.3, s.work_long), p.4, p.5, p.6),
-      c.requires.budget_bound.0,
-    )
+    let p = c.requires.n_bound in record { n_bound = (p.0, omega (arith, p.1, s.marks_long), omega (arith, p.2, s.forms_long), omega (arith, p.3, s.work_long), p.4, p.5, p.6); budget_bound = c.requires.budget_bound.0 }
 
 pub shape_of-work-in_default : goal.shape_of-work-in_default
 shape_of-work-in_default c = c.make_turn-moved.ensures.stays.work_long ∙ c.loop-left.invariant.stays.work_long

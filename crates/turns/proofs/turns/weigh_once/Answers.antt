@@ -1,4 +1,6 @@
 -- `turns::turns::weigh_once` meets its contract. Assumes nothing.
+use mathlib.Core.Path.{ap}
+use mathlib.Core.Bool.{not}
 use Rattle.turns.proofs.Moves.{once_kept, once_counted}
 use borrow.Author.Rules.{rules}
 use Rattle.turns.proofs.turns.weigh_once.Goals as goal
@@ -9,4 +11,4 @@ returns-then-not-weighed c =
     once_counted _ _ _ _ _ _ start.args.work.now start.requires.0 start.requires.1 start.requires.2 start.requires.3 _ c.weigh.ensures
 
 pub returns-else-not-weighed : goal.returns-else-not-weighed
-returns-else-not-weighed c = once_kept _ _ _ _ _ _ _ c.if-not-weighed.false
+returns-else-not-weighed c = once_kept _ _ _ _ _ _ _ (ap not c.if-not-weighed.false)
