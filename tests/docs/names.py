@@ -17,7 +17,7 @@ import re
 
 PAGES = ["README.md"] + ["docs/%s.md" % page for page in "RECORDS PROGRAM LIBRARY LISTS BELIEVED DEFINITIONS CLAIMS DECISIONS HOUSE".split()]
 # Names of tools, of C and of the languages.
-FOREIGN = "rt cargo cc valgrind python3 memcpy memmove memset sched_yield poll nanosleep get_or requires ensures switch unsafe".split()
+FOREIGN = "rt cargo cc valgrind python3 memcpy memmove memset yield_now get_or requires ensures switch unsafe".split()
 WORD = r"[^\s(){}:;,.`|]+"
 NAMES = r"(?:`[^`]*`(?:, | and )?)+"
 PLACE = r"[a-z0-9_]+(?: [A-Z]\w*|/\w+/\w+(?:\.antt)?)"
