@@ -4,7 +4,7 @@ use borrow.Author.Rules.{rules}
 use Rattle.taking.proofs.take_records.Goals as goal
 
 pub all_records-requires : goal.all_records-requires
-all_records-requires c = (rw c.begin-p.ensures, rw c.begin-p.ensures, rw c.begin-p.ensures (begin_ready _ _ _ _ _ _ _))
+all_records-requires g c = (rw c.begin-p.ensures, rw c.begin-p.ensures, rw c.begin-p.ensures (begin_ready _ _ _ _ _ _ _))
 
 pub returns : goal.returns
-returns c = rw c.begin-p.ensures at c.all_records.ensures
+returns g c = rw c.begin-p.ensures at c.all_records.ensures

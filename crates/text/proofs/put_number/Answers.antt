@@ -1,6 +1,5 @@
 -- `text::put_number` meets its contract. Assumes nothing.
 use Rattle.text.proofs.Putting.{puts_number}
-use borrow.Author.Rules.{rules}
 use Rattle.text.proofs.put_number.Goals as goal
 
 pub returns : goal.returns

@@ -1,9 +1,5 @@
 -- `text::put_text` meets its contract. Assumes nothing.
-use mathlib.Core.Path.{◌≡◌}
-use Prim.Native.Nat.{◌-◌, ◌≤◌}
-use lib.ListN.{length, take}
 use borrow.Author.Rules.{rules}
-use Rattle.text.specs.Text.{Puts}
 use Rattle.text.proofs.Putting.{puts_more, puts_all}
 use Rattle.text.proofs.put_text.Goals as goal
 

@@ -9,19 +9,19 @@ use borrow.Author.Rules.{rules}
 use Rattle.taking.proofs.answering.answered.Goals as goal
 
 pub next_record-bytes-requires : goal.next_record-bytes-requires
-next_record-bytes-requires c = c.requires.0
+next_record-bytes-requires g c = c.requires.0
 
 pub bounds-bytes-0 : goal.bounds-bytes-0
-bounds-bytes-0 c = let e = ap length c.next_record-bytes.ensures in omega (arith, e, record_long c.args.p c.args.block.now c.requires.0, c.requires.1)
+bounds-bytes-0 g c = let e = ap length c.next_record-bytes.ensures in omega (arith, e, record_long c.args.p c.args.block.now c.requires.0, c.requires.1)
 
 pub overflow_add-taken : goal.overflow_add-taken
-overflow_add-taken c = omega (arith, c.requires.0, c.well-formed)
+overflow_add-taken g c = omega (arith, c.requires.0, c.well_formed)
 
 pub overflow_add-noted : goal.overflow_add-noted
-overflow_add-noted c = omega (arith, c.requires.2.place, c.ranges.most)
+overflow_add-noted g c = omega (arith, c.requires.2.place, c.ranges.most)
 
 pub returns : goal.returns
-returns c =
+returns g c =
     let s = c in
     let n = ap length c.next_record-bytes.ensures ∙ record_long s.args.p s.args.block.now s.requires.0 in
     record {
