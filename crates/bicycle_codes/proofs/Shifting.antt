@@ -6,7 +6,6 @@ use native.Mathlib.Omega.{arith}
 use lib.ListN.{length, length-append, length-map}
 use lib.Seq.{sets}
 use Rattle.binary.specs.Meaning.{Row, All}
-use Rattle.bicycle_codes.specs.declared.Term.{Term}
 use Rattle.bicycle_codes.specs.declared.Terms.{Terms}
 use Rattle.bicycle_codes.specs.declared.Three.{Three}
 use Rattle.bicycle_codes.specs.Bicycle.{list_of, sorted}

@@ -11,9 +11,9 @@ use borrow.Author.Tests.{lt-ltb, ltb-true, eqb-false}
 use lib.Dec.{eqb, ltb}
 use lib.ListN.{length}
 use Rattle.binary.specs.Bits.{◌⊕◌, count, tally}
-use Rattle.binary.specs.Meaning.{Qubits, Row, Below, All, has, sum, Inside, product, IsProduct, Lowest, Fixed, fixed?}
+use Rattle.binary.specs.Meaning.{Qubits, Row, Below, All, has, sum, product, IsProduct, Lowest, fixed?}
 use Rattle.binary.specs.Classes.{Reduced}
-use Rattle.binary.specs.Rank.{chosen_if, chosen, Independent, product?, rank, Ranked, RankLaw}
+use Rattle.binary.specs.Rank.{chosen_if, chosen, Independent, product?, rank, RankLaw}
 use Rattle.binary.proofs.Bits.{xors, ⊕_false, ⊕_self, ⊕_eq, bit, never, iff_eq, tally_same, tally_none}
 use Rattle.binary.proofs.Weights.{tally_up}
 use Rattle.binary.proofs.Rows.{all_out, empty_product, sum_product, choice, has_below, product_below}

@@ -12,7 +12,6 @@ use lib.Count.{ones}
 use lib.Dec.{eqb, leb, ltb}
 use lib.ListN.{length, get_or}
 use lib.Pow.{pow_mono}
-use Rattle.binary.specs.Bits.{◌⊕◌}
 use Rattle.binary.specs.Words.{bit}
 use Rattle.binary.proofs.Bits.{bit as cases, never, &&_true, or_false}
 use Rattle.binary.proofs.WordBits.{bit-bit_and, one_shl}

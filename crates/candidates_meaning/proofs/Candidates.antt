@@ -13,7 +13,7 @@ use Rattle.machine.specs.declared.Word.TheVariants.{Certain, Unsure, None, Spent
 use Rattle.machine.specs.Words.{finished?}
 use Rattle.machine.specs.Machine.{Form, State, on, Half, checks, fixed_of, decoded, is_open}
 use Rattle.machine.specs.Report.{Shown, shown, outcome}
-use Rattle.machine.specs.Demands.{Obeys, fills, FillingsLaw, ClassesLaw}
+use Rattle.machine.specs.Demands.{fills, FillingsLaw, ClassesLaw}
 use Rattle.candidates_meaning.specs.Candidates.{choice, candidate_of, CandidatesLaw}
 use Rattle.machine.proofs.Stages.{Good}
 use Rattle.machine.proofs.Values.{value_same}

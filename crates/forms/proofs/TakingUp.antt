@@ -14,7 +14,7 @@ use Rattle.binary.specs.Words.{bit}
 use Rattle.binary.proofs.Bits.{&&_false, never, and_out, and_in}
 use Rattle.binary.proofs.WordBits.{order, bit_zero, bit_one, bit_past}
 use Rattle.forms.specs.declared.Taken.TheVariants.{Failed, Live}
-use Rattle.machine.specs.Machine.{Form, side, newest, without, replace, take_at, take_up, one_less}
+use Rattle.machine.specs.Machine.{Form, newest, without, replace, take_at, take_up, one_less}
 use Rattle.machine.specs.Lists.{forms_of}
 use Rattle.machine.proofs.Settling.{side_top}
 use Rattle.machine.proofs.TakingUp.{newest_is, without_below, without_above}

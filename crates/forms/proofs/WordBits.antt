@@ -10,7 +10,6 @@ use lib.Count.{count_leading_zeros, leading_top}
 use lib.Dec.{eqb}
 use lib.Pow.{pow_pos, high, low, shr_le, split}
 use lib.Bits.{bit_or, bit_xor, or_shifted}
-use Rattle.binary.specs.Bits.{◌⊕◌}
 use Rattle.binary.specs.Words.{bit}
 use Rattle.binary.proofs.Bits.{⊕_false, &&_false, &&_true, eqb_sym}
 use Rattle.binary.proofs.WordBits.{order, parity, bit_zero, bit_pow, bit-bit_xor, bit_past, bit_shr, bit_mod, one_shl, top_set}

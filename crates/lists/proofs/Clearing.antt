@@ -2,7 +2,7 @@
 --   Upto        the elements passed are 0, and every other one is as it was
 --   clear_done  at the end of the loop the list is cleared, also where it ends before, or nothing is to be cleared
 use mathlib.Core.Path.{◌≡◌, refl, ◌∙◌}
-use mathlib.Core.Logic.{◌⊎◌, inl, inr, ⊎_elim}
+use mathlib.Core.Logic.{◌⊎◌, inl, inr}
 use mathlib.Core.List.{List}
 use Prim.Native.Nat.{ℕ, ◌+◌, ◌≤◌, ◌<◌}
 use native.Mathlib.Omega.{arith}

@@ -1,9 +1,7 @@
 -- `bicycle_codes::answered` meets its contract. Assumes nothing.
 use mathlib.Core.Path.{sym, ap₂, ◌∙◌}
-use mathlib.Core.Bool.{◌||◌}
 use borrow.Author.Tests.{lt-ltb, le-ltb}
 use Rattle.bicycle_codes.proofs.Answers.{on_grid, on_term, on_short, on_written}
-use borrow.Author.Rules.{rules}
 use Rattle.bicycle_codes.proofs.answered.Goals as goal
 
 pub returns-then-is_grid : goal.returns-then-is_grid

@@ -1,5 +1,4 @@
 -- `bicycle_codes::back` meets its contract. Assumes nothing.
-use borrow.Author.Rules.{rules}
 use Rattle.bicycle_codes.proofs.back.Goals as goal
 
 pub returns : goal.returns

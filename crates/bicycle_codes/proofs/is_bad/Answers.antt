@@ -1,5 +1,4 @@
 -- `bicycle_codes::is_bad` meets its contract. Assumes nothing.
-use borrow.Author.Rules.{rules}
 use Rattle.bicycle_codes.proofs.is_bad.Goals as goal
 
 pub returns : goal.returns

@@ -1,5 +1,4 @@
 -- `bicycle_codes::is_grid` meets its contract. Assumes nothing.
-use borrow.Author.Rules.{rules}
 use Rattle.bicycle_codes.proofs.is_grid.Goals as goal
 
 pub returns : goal.returns

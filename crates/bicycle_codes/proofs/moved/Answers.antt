@@ -2,7 +2,6 @@
 use Prim.Native.Nat.{◌+◌, ◌*◌, ◌/◌, ◌%◌, ◌<◌}
 use native.Mathlib.Nat.{mod-le, div-le_self}
 use native.Mathlib.Omega.{arith}
-use borrow.Author.Rules.{rules}
 use Rattle.bicycle_codes.proofs.Grid.{within}
 use Rattle.bicycle_codes.proofs.moved.Goals as goal
 use Rattle.bicycle_codes.proofs.moved.Goals.{Start}

@@ -3,7 +3,6 @@ use Prim.Native.Nat.{◌+◌}
 use native.Mathlib.Omega.{arith}
 use lib.ListN.{length-set}
 use Rattle.bicycle_codes.proofs.Stores.{six_stores}
-use borrow.Author.Rules.{rules}
 use Rattle.bicycle_codes.proofs.put_row.Goals as goal
 
 pub bounds-rows-at-2 : goal.bounds-rows-at-2

@@ -1,10 +1,7 @@
 -- `bicycle_codes::put_rows` meets its contract: after p turns the rows of p places are written. Assumes nothing.
-use mathlib.Core.Path.{◌≡◌, refl}
+use mathlib.Core.Path.{◌≡◌}
 use Prim.Native.Nat.{◌*◌, ◌-◌, ◌≤◌}
-use native.Mathlib.Omega.{arith}
 use Rattle.bicycle_codes.specs.Writing.{row_by, RowsPut}
-use Rattle.bicycle_codes.proofs.Stores.{rows_none}
-use Rattle.bicycle_codes.proofs.Shifting.{one_more_lem, all_rows, room}
 use Rattle.bicycle_codes.proofs.put_rows.Given as goal
 
 abbrev pub invariant-loop-p : goal.invariant-loop-p

@@ -1,7 +1,6 @@
 -- `bicycle_codes::shifted` meets its contract. Assumes nothing.
 use native.Mathlib.Omega.{arith}
 use Rattle.bicycle_codes.proofs.Shifting.{shifts}
-use borrow.Author.Rules.{rules}
 use Rattle.bicycle_codes.proofs.shifted.Goals as goal
 
 pub returns : goal.returns

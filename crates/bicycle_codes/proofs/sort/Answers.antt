@@ -1,7 +1,6 @@
 -- `bicycle_codes::sort` meets its contract. Assumes nothing.
 use mathlib.Core.Path.{◌∙◌}
 use native.Mathlib.Omega.{arith}
-use borrow.Author.Rules.{rules}
 use Rattle.bicycle_codes.proofs.Sorting.{exchanged}
 use Rattle.bicycle_codes.proofs.sort.Goals as goal
 

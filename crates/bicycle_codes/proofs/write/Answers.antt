@@ -1,7 +1,6 @@
 -- `bicycle_codes::write` meets its contract: it is refused, or the X rows and then the Z rows are written. Assumes nothing.
 use native.Mathlib.Omega.{arith}
 use Rattle.bicycle_codes.proofs.Answers.{writable, terms_in, refused_writes, writes}
-use borrow.Author.Rules.{rules}
 use Rattle.bicycle_codes.proofs.write.Goals as goal
 
 pub returns-in_default : goal.returns-in_default

@@ -1,7 +1,6 @@
 -- `bitsets::flip` meets its contract. Assumes nothing.
 use native.Mathlib.Omega.{arith}
 use Rattle.bitsets.proofs.Flipping.{flip_done, flip_none}
-use borrow.Author.Rules.{rules}
 use Rattle.bitsets.proofs.flip.Goals as goal
 
 pub returns-then-at-list : goal.returns-then-at-list

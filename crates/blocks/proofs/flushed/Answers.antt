@@ -1,7 +1,6 @@
 -- `blocks::flushed` meets its contract. Assumes nothing.
 use Rattle.blocks.proofs.Sending.{parts}
 use mathlib.Core.Path.{refl}
-use borrow.Author.Rules.{rules}
 use Rattle.blocks.proofs.flushed.Goals as goal
 
 pub returns : goal.returns

@@ -1,14 +1,11 @@
 -- `blocks::one_block` meets its contract. Assumes nothing.
-use Rattle.blocks.proofs.Sending.{sent_none, sent_join, stops_not, block_done}
 use Rattle.blocks.specs.Blocks.{Sent, stand}
 use Rattle.cutting.specs.Cutting.{next_of}
 use Rattle.claim.specs.Calls.{passed}
 use lib.ListN.{length, drop}
-use borrow.Author.Rules.{rules}
-use native.Mathlib.Omega.{arith}
 use Prim.Native.Nat.{◌-◌, ◌≤◌}
-use mathlib.Core.Bool.{cond, ◌||◌, or-false}
-use mathlib.Core.Path.{◌≡◌, refl, sym, ◌∙◌}
+use mathlib.Core.Bool.{cond, ◌||◌}
+use mathlib.Core.Path.{◌≡◌}
 use Rattle.blocks.proofs.one_block.Given as goal
 
 abbrev pub invariant-loop-b : goal.invariant-loop-b

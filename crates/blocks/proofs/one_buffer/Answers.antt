@@ -1,6 +1,5 @@
 -- `blocks::one_buffer` meets its contract. Assumes nothing.
 use Rattle.blocks.proofs.Sending.{buffer_went}
-use borrow.Author.Rules.{rules}
 use Rattle.blocks.proofs.one_buffer.Goals as goal
 
 pub flushed-requires : goal.flushed-requires

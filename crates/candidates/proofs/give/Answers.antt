@@ -3,7 +3,6 @@ use mathlib.Core.Path.{◌≡◌}
 use lib.ListN.{length}
 use Rattle.records.specs.Lowest.{lowest}
 use Rattle.candidates_meaning.specs.declared.CandidateAnswer.{CandidateAnswer}
-use borrow.Author.Rules.{rules}
 use Rattle.candidates_meaning.specs.Asking.{Asked, candidate_tests, candidate_answer}
 use Rattle.candidates.proofs.Giving.{Tested, given_room, given_number, gives_none, gives_one}
 use Rattle.candidates.proofs.give.Goals as goal

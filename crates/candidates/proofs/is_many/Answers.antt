@@ -1,5 +1,4 @@
 -- `candidates::is_many` meets its contract. Assumes nothing.
-use borrow.Author.Rules.{rules}
 use Rattle.candidates.proofs.Giving.{live_many, number_many}
 use Rattle.candidates.proofs.is_many.Goals as goal
 

@@ -3,7 +3,6 @@ use mathlib.Core.Bool.{Bool, not, ◌||◌}
 use mathlib.Core.Path.{ap₂}
 use Prim.Native.Nat.{ℕ}
 use lib.Dec.{ltb}
-use borrow.Author.Rules.{rules}
 use Rattle.candidates.proofs.is_unfinished.Goals as goal
 
 pub returns : goal.returns

@@ -1,10 +1,5 @@
 -- `candidates::write` meets its contract. Assumes nothing.
-use Prim.Native.Nat.{◌-◌, ◌*◌, ◌%◌, ◌≤◌}
-use lib.Bits.{bit_and}
-use lib.Count.{ones}
-use lib.ListN.{get_or}
 use borrow.Author.Rules.{rules}
-use Rattle.lists.specs.Filled.{Filled}
 use Rattle.lists.proofs.Filling.{fill_none, fill_turn, fill_end}
 use Rattle.candidates.proofs.write.Goals as goal
 

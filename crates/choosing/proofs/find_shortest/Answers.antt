@@ -1,10 +1,7 @@
 -- `choosing::find_shortest` meets its contract: word by word, the column is the shortest of those seen so far. Assumes nothing.
 use borrow.Author.Rules.{rules}
 use mathlib.Core.Path.{◌≡◌}
-use mathlib.Core.Logic.{⊎_elim}
-use Prim.Native.Nat.{◌-◌, ◌≤◌}
 use native.Mathlib.Omega.{arith}
-use Rattle.choosing.specs.Choosing.{ShortestOf}
 use Rattle.choosing.proofs.Words.{shortest_start, shortest_empty, shortest_none, shortest_same, shortest_new}
 use Rattle.choosing.proofs.find_shortest.Goals as goal
 use Rattle.choosing.proofs.find_shortest.Goals.{then-word-ne0+then-here-rows, then-word-ne0+else-here-rows, else-word-ne0}
@@ -23,7 +20,7 @@ loop-k-preserved c =
     let s = c.loop-k.invariant.1 in (
       search rules,
       elim c.if-word-ne0.branch [
-          then-word-ne0+then-here-rows w ↦ rw (w.column-is, w.rows-is) (shortest_new _ _ _ _ s _ w.shortest_in-here.ensures w.if-here-rows.true)
+        | then-word-ne0+then-here-rows w ↦ rw (w.column-is, w.rows-is) (shortest_new _ _ _ _ s _ w.shortest_in-here.ensures w.if-here-rows.true)
         | then-word-ne0+else-here-rows w ↦ rw (w.column-is, w.rows-is) (shortest_same _ _ _ _ s _ w.shortest_in-here.ensures w.if-here-rows.false)
         | else-word-ne0 w ↦ rw (w.column-is, w.rows-is) (shortest_none _ _ _ _ s (omega (arith, w.if-word-ne0.false)))
       ],

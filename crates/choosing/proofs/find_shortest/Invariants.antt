@@ -1,11 +1,6 @@
 -- `choosing::find_shortest` meets its contract: word by word, the column is the shortest of those seen so far. Assumes nothing.
-use borrow.Author.Rules.{rules}
-use mathlib.Core.Path.{◌≡◌}
-use mathlib.Core.Logic.{⊎_elim}
 use Prim.Native.Nat.{◌-◌, ◌≤◌}
-use native.Mathlib.Omega.{arith}
 use Rattle.choosing.specs.Choosing.{ShortestOf}
-use Rattle.choosing.proofs.Words.{shortest_start, shortest_empty, shortest_none, shortest_same, shortest_new}
 use Rattle.choosing.proofs.find_shortest.Given as goal
 
 abbrev pub invariant-loop-k : goal.invariant-loop-k

@@ -1,11 +1,9 @@
 -- `choosing::shortest_in` meets its contract: plane by plane, the columns left are the shortest by the planes seen so far. Assumes nothing.
 use borrow.Author.Rules.{rules}
 use mathlib.Core.Path.{◌≡◌}
-use mathlib.Core.Logic.{⊎_elim}
-use Prim.Native.Nat.{◌≤◌}
 use native.Mathlib.Omega.{arith}
 use Rattle.choosing.proofs.HighPlanes.{none_tall}
-use Rattle.choosing.proofs.Narrowing.{Narrowed, narrowed_start, narrowed_low, narrowed_all, narrowed_short, narrowed_end, few_zeros, few_rows}
+use Rattle.choosing.proofs.Narrowing.{narrowed_start, narrowed_low, narrowed_all, narrowed_short, narrowed_end, few_zeros, few_rows}
 use Rattle.choosing.proofs.shortest_in.Goals as goal
 use Rattle.choosing.proofs.shortest_in.Goals.{then-word-tall-eq0, else-word-tall-eq0}
 
@@ -33,6 +31,6 @@ returns c = let e : c.loop-p.p ≡ 0 = omega arith in narrowed_end _ _ _ _ _ (rw
 pub loop-p-init : goal.loop-p-init
 loop-p-init c =
     elim c.if-word-tall-eq0.branch [
-        then-word-tall-eq0 w ↦ rw w.p-is (search rules, narrowed_low _ _ _ (search rules) c.ranges.word.fits (none_tall _ _ _ _ c.tall.ensures w.if-word-tall-eq0.true))
+      | then-word-tall-eq0 w ↦ rw w.p-is (search rules, narrowed_low _ _ _ (search rules) c.ranges.word.fits (none_tall _ _ _ _ c.tall.ensures w.if-word-tall-eq0.true))
       | else-word-tall-eq0 w ↦ rw w.p-is (search rules, narrowed_start _ _ _ (search rules) c.ranges.word.fits)
     ]

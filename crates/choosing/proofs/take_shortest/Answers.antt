@@ -1,7 +1,5 @@
 -- `choosing::take_shortest` meets its contract. Assumes nothing.
 use mathlib.Core.Path.{sym, ◌∙◌}
-use borrow.Author.Rules.{rules}
-use borrow.Author.Tests.{not-true, not-false}
 use Rattle.choosing.proofs.Taking.{room_out, takes_refused, takes_none, in_list, takes_one}
 use Rattle.choosing.proofs.take_shortest.Goals as goal
 

@@ -1,9 +1,7 @@
 -- `choosing::tall` meets its contract: the planes seen so far have no other column. Assumes nothing.
 use borrow.Author.Rules.{rules}
 use mathlib.Core.Path.{◌≡◌}
-use Prim.Native.Nat.{◌-◌, ◌≤◌}
 use native.Mathlib.Omega.{arith}
-use Rattle.choosing.specs.Choosing.{Tall}
 use Rattle.choosing.proofs.HighPlanes.{tall_start, tall_more}
 use Rattle.choosing.proofs.tall.Goals as goal
 

@@ -1,10 +1,6 @@
 -- `choosing::tall` meets its contract: the planes seen so far have no other column. Assumes nothing.
-use borrow.Author.Rules.{rules}
-use mathlib.Core.Path.{◌≡◌}
 use Prim.Native.Nat.{◌-◌, ◌≤◌}
-use native.Mathlib.Omega.{arith}
 use Rattle.choosing.specs.Choosing.{Tall}
-use Rattle.choosing.proofs.HighPlanes.{tall_start, tall_more}
 use Rattle.choosing.proofs.tall.Given as goal
 
 abbrev pub invariant-loop-p : goal.invariant-loop-p

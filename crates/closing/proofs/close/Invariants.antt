@@ -1,9 +1,6 @@
 -- `closing::close` meets its contract: the rows before row i are done. Assumes nothing.
-use borrow.Author.Rules.{rules}
-use mathlib.Core.Path.{refl, ◌∙◌}
 use Prim.Native.Nat.{◌-◌}
-use native.Mathlib.Omega.{arith}
-use Rattle.closing.proofs.ClosingRows.{ClosingAll, all_start, all_failed, all_turn, all_end}
+use Rattle.closing.proofs.ClosingRows.{ClosingAll}
 use Rattle.closing.proofs.close.Given as goal
 
 abbrev pub invariant-loop-i : goal.invariant-loop-i

@@ -2,7 +2,6 @@
 use mathlib.Core.Bool.{not}
 use mathlib.Core.Path.{refl, ap}
 use Rattle.closing.proofs.ClosingRows.{enough_out, closed_refused, closed_made}
-use borrow.Author.Rules.{rules}
 use Rattle.closing.proofs.close_rows.Goals as goal
 
 pub returns-then-not-is_enough : goal.returns-then-not-is_enough

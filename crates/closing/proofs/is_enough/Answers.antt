@@ -1,7 +1,6 @@
 -- `closing::is_enough` meets its contract. Assumes nothing.
 use Rattle.machine.proofs.FormWords.{four_words}
 use Rattle.closing.specs.Closing.{enough?}
-use borrow.Author.Rules.{rules}
 use Rattle.closing.proofs.is_enough.Goals as goal
 
 pub returns : goal.returns

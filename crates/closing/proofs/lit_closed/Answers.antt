@@ -1,9 +1,7 @@
 -- `closing::lit_closed` meets its contract: no row so far is lit and closed. Assumes nothing.
 use borrow.Author.Rules.{rules}
-use Prim.Native.Nat.{◌-◌, ◌≤◌}
 use native.Mathlib.Omega.{arith}
-use mathlib.Core.Logic.{⊎_elim}
-use Rattle.closing.proofs.TakingRows.{PassedRows, passed_none, rows_more, lit_refused, lit_found, lit_none}
+use Rattle.closing.proofs.TakingRows.{passed_none, rows_more, lit_refused, lit_found, lit_none}
 use Rattle.closing.proofs.lit_closed.Goals as goal
 use Rattle.closing.proofs.lit_closed.Goals.{then-lit-first-eq1+else-work-i-eq0, else-lit-first-eq1}
 
@@ -30,7 +28,7 @@ loop-i-preserved c = (
   search rules,
   rows_more _ _ _ _ _ c.loop-i-test.true c.loop-i.invariant.1
       (elim c.if-lit-first-eq1.branch [
-          then-lit-first-eq1+else-work-i-eq0 w ↦ λ a e. w.if-work-i-eq0.false e
+        | then-lit-first-eq1+else-work-i-eq0 w ↦ λ a e. w.if-work-i-eq0.false e
         | else-lit-first-eq1 w ↦ λ a e. w.if-lit-first-eq1.false a
       ]),
 )

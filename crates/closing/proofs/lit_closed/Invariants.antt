@@ -1,9 +1,6 @@
 -- `closing::lit_closed` meets its contract: no row so far is lit and closed. Assumes nothing.
-use borrow.Author.Rules.{rules}
 use Prim.Native.Nat.{◌-◌, ◌≤◌}
-use native.Mathlib.Omega.{arith}
-use mathlib.Core.Logic.{⊎_elim}
-use Rattle.closing.proofs.TakingRows.{PassedRows, passed_none, rows_more, lit_refused, lit_found, lit_none}
+use Rattle.closing.proofs.TakingRows.{PassedRows}
 use Rattle.closing.proofs.lit_closed.Given as goal
 
 abbrev pub invariant-loop-i : goal.invariant-loop-i

@@ -1,6 +1,5 @@
 -- `closing::take_up_if` meets its contract. Assumes nothing.
 use Rattle.closing.proofs.TakingRows.{row_taken, row_left}
-use borrow.Author.Rules.{rules}
 use Rattle.closing.proofs.take_up_if.Goals as goal
 
 pub returns-then-closed : goal.returns-then-closed

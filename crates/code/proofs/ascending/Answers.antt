@@ -1,9 +1,7 @@
 -- `code::ascending` meets its contract: what is left of the row, from `least` on, decides. Assumes nothing.
-use mathlib.Core.Path.{◌≡◌, refl}
-use Prim.Native.Nat.{◌-◌, ◌≤◌}
+use mathlib.Core.Path.{refl}
 use borrow.Author.Rules.{rules}
-use lib.ListN.{length, drop}
-use Rattle.code.specs.Tests.{ascending_from, ascending?}
+use Rattle.code.specs.Tests.{ascending?}
 use Rattle.code.proofs.Turns.{ascending_low, ascending_high, ascending_turn, ascending_end}
 use Rattle.code.proofs.ascending.Goals as goal
 

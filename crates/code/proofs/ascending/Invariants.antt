@@ -1,10 +1,8 @@
 -- `code::ascending` meets its contract: what is left of the row, from `least` on, decides. Assumes nothing.
-use mathlib.Core.Path.{◌≡◌, refl}
+use mathlib.Core.Path.{◌≡◌}
 use Prim.Native.Nat.{◌-◌, ◌≤◌}
-use borrow.Author.Rules.{rules}
 use lib.ListN.{length, drop}
 use Rattle.code.specs.Tests.{ascending_from, ascending?}
-use Rattle.code.proofs.Turns.{ascending_low, ascending_high, ascending_turn, ascending_end}
 use Rattle.code.proofs.ascending.Given as goal
 
 abbrev pub invariant-loop-i : goal.invariant-loop-i

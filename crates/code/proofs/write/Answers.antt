@@ -1,9 +1,8 @@
 -- `code::write` meets its contract: after i turns the first i qubits are in place. Assumes nothing.
-use mathlib.Core.Path.{◌≡◌, refl}
-use Prim.Native.Nat.{◌-◌, ◌≤◌}
+use mathlib.Core.Path.{refl}
 use borrow.Author.Rules.{rules}
-use lib.ListN.{length, length-set}
-use lib.Seq.{paste, paste-zero}
+use lib.ListN.{length-set}
+use lib.Seq.{paste-zero}
 use Rattle.code.proofs.Push.{written_turn, written_all}
 use Rattle.code.proofs.write.Goals as goal
 

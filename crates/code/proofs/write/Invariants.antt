@@ -1,10 +1,8 @@
 -- `code::write` meets its contract: after i turns the first i qubits are in place. Assumes nothing.
-use mathlib.Core.Path.{◌≡◌, refl}
+use mathlib.Core.Path.{◌≡◌}
 use Prim.Native.Nat.{◌-◌, ◌≤◌}
-use borrow.Author.Rules.{rules}
-use lib.ListN.{length, length-set}
-use lib.Seq.{paste, paste-zero}
-use Rattle.code.proofs.Push.{written_turn, written_all}
+use lib.ListN.{length}
+use lib.Seq.{paste}
 use Rattle.code.proofs.write.Given as goal
 
 abbrev pub invariant-loop-i : goal.invariant-loop-i

@@ -1,10 +1,8 @@
 -- `commuting::all_even` meets its contract: the rows that are left decide. Assumes nothing.
-use mathlib.Core.Path.{◌≡◌, refl}
+use mathlib.Core.Path.{◌≡◌}
 use Prim.Native.Nat.{◌-◌}
-use borrow.Author.Rules.{rules}
 use Rattle.code.specs.Lists.{rows_between}
 use Rattle.commuting.specs.Even.{in_bits, even_for?}
-use Rattle.commuting.proofs.Turns.{even_odd, even_turn, even_end}
 use Rattle.commuting.proofs.all_even.Given as goal
 
 abbrev pub invariant-loop-r : goal.invariant-loop-r

@@ -1,6 +1,5 @@
 -- `commuting::even_with` meets its contract: the qubits as a set, and the rows. Assumes nothing.
 use mathlib.Core.Path.{refl}
-use borrow.Author.Rules.{rules}
 use Rattle.commuting.proofs.Sets.{even_made}
 use Rattle.commuting.proofs.even_with.Goals as goal
 

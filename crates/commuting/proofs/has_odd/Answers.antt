@@ -1,9 +1,6 @@
 -- `commuting::has_odd` meets its contract: the parity so far, plus that of what is left of the row. Assumes nothing.
-use mathlib.Core.Path.{◌≡◌, refl}
-use Prim.Native.Nat.{◌-◌, ◌≤◌}
+use mathlib.Core.Path.{refl}
 use borrow.Author.Rules.{rules}
-use lib.ListN.{length, drop}
-use Rattle.binary.specs.Bits.{◌⊕◌}
 use Rattle.binary.specs.Meaning
 use Rattle.commuting.specs.Even.{in_bits}
 use Rattle.commuting.proofs.Turns.{odd_turn, odd_end}

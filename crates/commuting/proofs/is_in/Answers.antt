@@ -1,6 +1,5 @@
 -- `commuting::is_in` meets its contract. Assumes nothing.
 use Rattle.commuting.proofs.Sets.{not_in, is_in}
-use borrow.Author.Rules.{rules}
 use Rattle.commuting.proofs.is_in.Goals as goal
 
 pub returns-then-q-ge1024 : goal.returns-then-q-ge1024

@@ -1,6 +1,5 @@
 -- `counts::add` meets its contract. Assumes nothing.
 use Rattle.counts.specs.Counts.{tallied}
-use borrow.Author.Rules.{rules}
 use Rattle.counts.proofs.add.Goals as goal
 
 pub returns-in-Refused : goal.returns-in-Refused

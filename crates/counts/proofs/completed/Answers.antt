@@ -1,5 +1,4 @@
 -- `counts::completed` meets its contract. Assumes nothing.
-use borrow.Author.Rules.{rules}
 use Rattle.counts.proofs.completed.Goals as goal
 
 pub returns : goal.returns

@@ -1,5 +1,4 @@
 -- `counts::decoded` meets its contract. Assumes nothing.
-use borrow.Author.Rules.{rules}
 use Rattle.counts.proofs.decoded.Goals as goal
 
 pub returns : goal.returns

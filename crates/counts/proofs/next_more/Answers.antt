@@ -1,6 +1,5 @@
 -- `counts::next_more` meets its contract. Assumes nothing.
 use borrow.Author.Tests.{eq-eqb, ne_eqb}
-use borrow.Author.Rules.{rules}
 use Rattle.counts.proofs.next_more.Goals as goal
 
 pub returns-then-t-number : goal.returns-then-t-number

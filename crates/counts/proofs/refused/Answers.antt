@@ -1,5 +1,4 @@
 -- `counts::refused` meets its contract. Assumes nothing.
-use borrow.Author.Rules.{rules}
 use Rattle.counts.proofs.refused.Goals as goal
 
 pub returns : goal.returns

@@ -1,5 +1,4 @@
 -- `counts::taken` meets its contract. Assumes nothing.
-use borrow.Author.Rules.{rules}
 use Rattle.counts.proofs.taken.Goals as goal
 
 pub returns : goal.returns

@@ -1,5 +1,4 @@
 -- `cutting::is_last` meets its contract. Assumes nothing.
-use borrow.Author.Rules.{rules}
 use Rattle.cutting.proofs.is_last.Goals as goal
 
 pub returns-in-Refused : goal.returns-in-Refused

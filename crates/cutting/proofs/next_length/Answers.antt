@@ -1,5 +1,4 @@
 -- `cutting::next_length` meets its contract. Assumes nothing.
-use borrow.Author.Rules.{rules}
 use Rattle.cutting.proofs.next_length.Goals as goal
 
 pub returns : goal.returns

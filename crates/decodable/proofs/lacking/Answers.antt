@@ -1,7 +1,6 @@
 -- `decodable::lacking` meets its contract. Assumes nothing.
 use Rattle.records.specs.Lists.{short_six}
 use Rattle.decodable.specs.Tests.{lacking?}
-use borrow.Author.Rules.{rules}
 use Rattle.decodable.proofs.lacking.Goals as goal
 
 pub returns : goal.returns

@@ -2,7 +2,6 @@
 use mathlib.Core.Path.{ap}
 use Rattle.decodable.specs.declared.Test.TheVariants.{Failed}
 use Rattle.decodable.specs.Tests.{test_of}
-use borrow.Author.Rules.{rules}
 use Rattle.decodable.proofs.tested.Goals as goal
 
 pub returns-then-codeless : goal.returns-then-codeless

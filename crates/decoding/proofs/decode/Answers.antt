@@ -1,6 +1,5 @@
 -- `decoding::decode` meets its contract: it is refused, or both halves are decoded. Assumes nothing.
 use Rattle.decoding.proofs.Decoding.{passed, decode_refused, shot_long, decode_done}
-use borrow.Author.Rules.{rules}
 use Rattle.decoding.proofs.decode.Goals as goal
 
 pub returns-in-Failed : goal.returns-in-Failed

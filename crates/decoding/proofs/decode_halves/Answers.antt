@@ -1,6 +1,5 @@
 -- `decoding::decode_halves` meets its contract, from what the decode of a half promises. Assumes nothing.
 use Rattle.decoding.proofs.Halves.{both_decoded}
-use borrow.Author.Rules.{rules}
 use Rattle.decoding.proofs.decode_halves.Goals as goal
 
 pub returns : goal.returns

@@ -1,7 +1,6 @@
 -- `decoding::readings` meets its contract. Assumes nothing.
 use Rattle.decoding.specs.Decoding.{readings_of}
 use Rattle.decoding.proofs.Halves.{part_rest}
-use borrow.Author.Rules.{rules}
 use Rattle.decoding.proofs.readings.Goals as goal
 
 pub returns : goal.returns

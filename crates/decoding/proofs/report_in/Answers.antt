@@ -1,5 +1,4 @@
 -- `decoding::report_in` meets its contract. Assumes nothing.
-use borrow.Author.Rules.{rules}
 use Rattle.decoding.proofs.report_in.Goals as goal
 
 pub returns-in-Refused : goal.returns-in-Refused

@@ -3,7 +3,6 @@ use mathlib.Core.Path.{ap, ◌∙◌}
 use Rattle.records.specs.declared.State.{State}
 use Rattle.records.specs.declared.Answer.TheVariants.{Decoded}
 use Rattle.records.specs.States.{reported_of}
-use borrow.Author.Rules.{rules}
 use Rattle.decoding.proofs.report_of.Goals as goal
 
 pub returns : goal.returns

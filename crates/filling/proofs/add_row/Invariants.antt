@@ -1,11 +1,7 @@
 -- `filling::add_row` meets its contract. Assumes nothing.
-use mathlib.Core.Logic.{⊎_elim}
-use mathlib.Core.Path.{sym, ◌∙◌}
 use Prim.Native.Nat.{◌-◌, ◌≤◌}
-use native.Mathlib.Omega.{arith}
 use lib.ListN.{length}
-use borrow.Author.Rules.{rules}
-use Rattle.filling.proofs.KeptRows.{Adding, adding_start, adding_open, adding_not, adding_end}
+use Rattle.filling.proofs.KeptRows.{Adding}
 use Rattle.filling.proofs.add_row.Given as goal
 
 abbrev pub invariant-loop-j : goal.invariant-loop-j

@@ -1,11 +1,8 @@
 -- `filling::by_qubits` meets its contract: the open qubits below q are kept. Assumes nothing.
 use mathlib.Core.Path.{refl, ◌∙◌}
-use mathlib.Core.Logic.{⊎_elim}
-use Prim.Native.Nat.{◌-◌, ◌≤◌}
 use native.Mathlib.Omega.{arith}
 use borrow.Author.Rules.{rules}
-use borrow.Author.Tests.{not-false}
-use Rattle.filling.proofs.KeptQubits.{qubits_not, Reached, reached_none, reached_shut, reached_open, reached_past, reached_all}
+use Rattle.filling.proofs.KeptQubits.{qubits_not, reached_none, reached_shut, reached_open, reached_past, reached_all}
 use Rattle.filling.proofs.by_qubits.Goals as goal
 use Rattle.filling.proofs.by_qubits.Goals.{then-marks-q-eq4+else-not-keep_qubit, else-marks-q-eq4}
 
@@ -38,7 +35,7 @@ loop-q-preserved c =
     let inside = c.loop-q-test.true in (
       search rules,
       elim c.if-marks-q-eq4.branch [
-          then-marks-q-eq4+else-not-keep_qubit w ↦ rw w.work-is (reached_open _ _ _ _ _ _ _ c.requires.0 c.requires.1 _ _ reached inside w.if-marks-q-eq4.true _ _ w.if-not-keep_qubit.false w.keep_qubit.ensures)
+        | then-marks-q-eq4+else-not-keep_qubit w ↦ rw w.work-is (reached_open _ _ _ _ _ _ _ c.requires.0 c.requires.1 _ _ reached inside w.if-marks-q-eq4.true _ _ w.if-not-keep_qubit.false w.keep_qubit.ensures)
         | else-marks-q-eq4 w ↦ rw w.work-is (reached_shut _ _ _ _ _ _ _ c.requires.0 c.requires.1 _ _ reached inside w.if-marks-q-eq4.false)
       ],
     )

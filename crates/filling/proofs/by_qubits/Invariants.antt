@@ -1,11 +1,6 @@
 -- `filling::by_qubits` meets its contract: the open qubits below q are kept. Assumes nothing.
-use mathlib.Core.Path.{refl, ◌∙◌}
-use mathlib.Core.Logic.{⊎_elim}
 use Prim.Native.Nat.{◌-◌, ◌≤◌}
-use native.Mathlib.Omega.{arith}
-use borrow.Author.Rules.{rules}
-use borrow.Author.Tests.{not-false}
-use Rattle.filling.proofs.KeptQubits.{qubits_not, Reached, reached_none, reached_shut, reached_open, reached_past, reached_all}
+use Rattle.filling.proofs.KeptQubits.{Reached}
 use Rattle.filling.proofs.by_qubits.Given as goal
 
 abbrev pub invariant-loop-q : goal.invariant-loop-q

@@ -1,11 +1,8 @@
 -- `filling::by_rows` meets its contract: the rows before row i are kept. Assumes nothing.
 use borrow.Author.Rules.{rules}
 use native.Mathlib.Numerals.{add-one}
-use mathlib.Core.Path.{◌≡◌, refl, ◌∙◌}
-use Prim.Native.Nat.{◌-◌, ◌≤◌}
+use mathlib.Core.Path.{refl, ◌∙◌}
 use native.Mathlib.Omega.{arith}
-use lib.ListN.{length}
-use Rattle.filling.specs.Filling.{Beyond, KeptTo}
 use Rattle.filling.proofs.KeptRows.{kept_start, kept_all}
 use Rattle.filling.proofs.by_rows.Goals as goal
 

@@ -1,12 +1,8 @@
 -- `filling::by_rows` meets its contract: the rows before row i are kept. Assumes nothing.
-use borrow.Author.Rules.{rules}
-use native.Mathlib.Numerals.{add-one}
-use mathlib.Core.Path.{◌≡◌, refl, ◌∙◌}
+use mathlib.Core.Path.{◌≡◌}
 use Prim.Native.Nat.{◌-◌, ◌≤◌}
-use native.Mathlib.Omega.{arith}
 use lib.ListN.{length}
 use Rattle.filling.specs.Filling.{Beyond, KeptTo}
-use Rattle.filling.proofs.KeptRows.{kept_start, kept_all}
 use Rattle.filling.proofs.by_rows.Given as goal
 
 abbrev pub invariant-loop-i : goal.invariant-loop-i

@@ -1,10 +1,6 @@
 -- `filling::empty_sets` meets its contract. Assumes nothing.
-use mathlib.Core.Logic.{⊎_elim}
-use mathlib.Core.Path.{sym, ◌∙◌}
 use Prim.Native.Nat.{◌-◌, ◌≤◌}
-use native.Mathlib.Omega.{arith}
-use borrow.Author.Rules.{rules}
-use Rattle.filling.proofs.KeptRows.{Emptying, emptying_start, emptying_open, emptying_not, emptying_end}
+use Rattle.filling.proofs.KeptRows.{Emptying}
 use Rattle.filling.proofs.empty_sets.Given as goal
 
 abbrev pub invariant-loop-q : goal.invariant-loop-q

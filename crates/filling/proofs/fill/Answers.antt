@@ -4,7 +4,6 @@ use mathlib.Core.List.{[]}
 use mathlib.Core.Path.{refl, ◌∙◌, ap}
 use native.Mathlib.Omega.{arith}
 use Rattle.filling.proofs.Fills.{fills_not, fills_qubits, fills_rows, enough_told, room_told}
-use borrow.Author.Rules.{rules}
 use Rattle.filling.proofs.fill.Goals as goal
 
 pub returns-then-not-is_enough : goal.returns-then-not-is_enough

@@ -1,7 +1,6 @@
 -- `filling::is_enough` meets its contract. Assumes nothing.
 use mathlib.Core.Path.{refl}
 use Rattle.filling.specs.Filling.{enough?}
-use borrow.Author.Rules.{rules}
 use Rattle.filling.proofs.is_enough.Goals as goal
 
 pub returns : goal.returns

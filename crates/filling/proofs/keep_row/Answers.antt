@@ -2,7 +2,6 @@
 use native.Mathlib.Omega.{arith}
 use lib.ListN.{length-set}
 use Rattle.filling.proofs.KeptRows.{added_as, kept_plain, kept_dangling}
-use borrow.Author.Rules.{rules}
 use Rattle.filling.proofs.keep_row.Goals as goal
 
 pub shape_of-work-then-open-eq1 : goal.shape_of-work-then-open-eq1

@@ -1,7 +1,6 @@
 -- `filling::put_row` meets its contract. Assumes nothing.
 use mathlib.Core.Path.{sym, ◌∙◌}
 use native.Mathlib.Omega.{arith}
-use borrow.Author.Tests.{not-true, not-false}
 use Rattle.binary.proofs.Bits.{never}
 use Rattle.filling.proofs.KeptQubits.{row_passed, row_put}
 use borrow.Author.Rules.{rules}

@@ -1,10 +1,8 @@
 -- `filling::put_rows` meets its contract: the rows before place k are put. Assumes nothing.
 use mathlib.Core.Path.{◌∙◌}
-use Prim.Native.Nat.{◌-◌, ◌≤◌}
 use native.Mathlib.Omega.{arith}
-use lib.ListN.{length}
 use borrow.Author.Rules.{rules}
-use Rattle.filling.proofs.KeptQubits.{Putting, putting_start, putting_row, putting_end}
+use Rattle.filling.proofs.KeptQubits.{putting_start, putting_row, putting_end}
 use Rattle.filling.proofs.put_rows.Goals as goal
 
 pub loop-k-init : goal.loop-k-init

@@ -1,7 +1,6 @@
 -- `forms::put_guess` meets its contract: the words below the guess's are cleared. Assumes nothing.
 use native.Mathlib.Omega.{arith}
 use Rattle.forms.proofs.Putting.{guess_nothing, puts_guess}
-use borrow.Author.Rules.{rules}
 use Rattle.forms.proofs.put_guess.Goals as goal
 
 pub returns-then-n-qubit : goal.returns-then-n-qubit

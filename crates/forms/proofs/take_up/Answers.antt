@@ -1,7 +1,6 @@
 -- `forms::take_up` meets its contract: one law for each way through it. Assumes nothing.
 use native.Mathlib.Omega.{arith}
 use Rattle.forms.proofs.TakingUp.{takes_none, takes_nothing, takes_failed, takes_dead, takes_guess}
-use borrow.Author.Rules.{rules}
 use Rattle.forms.proofs.take_up.Goals as goal
 
 pub returns-then-forms-n : goal.returns-then-forms-n

@@ -1,11 +1,7 @@
 -- `guessing::add` meets its contract: with the share added at what is left of the row, the numbers are what they come to. Assumes nothing.
 use borrow.Author.Rules.{rules}
-use mathlib.Core.Path.{refl}
-use mathlib.Core.Logic.{⊎_elim}
-use Prim.Native.Nat.{◌-◌, ◌≤◌}
 use native.Mathlib.Omega.{arith}
-use lib.ListN.{length}
-use Rattle.guessing.proofs.Adding.{Adding, adding_start, adding_yes, adding_no, adding_end}
+use Rattle.guessing.proofs.Adding.{adding_start, adding_end}
 use Rattle.guessing.proofs.add.Goals as goal
 
 pub loop-i-init : goal.loop-i-init

@@ -1,7 +1,6 @@
 -- `guessing::add_row` meets its contract. Assumes nothing.
 use native.Mathlib.Omega.{arith}
 use Rattle.guessing.proofs.Adding.{added_none, added_as}
-use borrow.Author.Rules.{rules}
 use Rattle.guessing.proofs.add_row.Goals as goal
 
 pub returns-then-share-gt0 : goal.returns-then-share-gt0

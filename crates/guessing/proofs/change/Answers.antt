@@ -1,6 +1,5 @@
 -- `guessing::change` meets its contract. Assumes nothing.
 use borrow.Author.Tests.{eq-eqb, ne_eqb}
-use borrow.Author.Rules.{rules}
 use Rattle.guessing.proofs.change.Goals as goal
 
 pub returns-then-left-eq2 : goal.returns-then-left-eq2

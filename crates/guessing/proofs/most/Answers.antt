@@ -1,10 +1,8 @@
 -- `guessing::most` meets its contract: what is kept is the rule's qubit of those below q, with its weight. Assumes nothing.
 use mathlib.Core.Path.{◌≡◌, refl}
-use mathlib.Core.Logic.{⊎_elim}
-use Prim.Native.Nat.{◌-◌, ◌≤◌}
 use native.Mathlib.Omega.{arith}
 use borrow.Author.Rules.{rules}
-use Rattle.guessing.proofs.Choices.{best_below, Leads, leads_taken, leads_left, leads_within, leads_none, leads_one}
+use Rattle.guessing.proofs.Choices.{best_below, leads_within, leads_none, leads_one}
 use Rattle.guessing.proofs.most.Goals as goal
 
 pub loop-q-init : goal.loop-q-init

@@ -1,6 +1,5 @@
 -- `guessing::most_open` meets its contract. Assumes nothing.
 use Rattle.guessing.proofs.Room.{name_room, named, unnamed}
-use borrow.Author.Rules.{rules}
 use Rattle.guessing.proofs.most_open.Goals as goal
 
 pub most-requires : goal.most-requires

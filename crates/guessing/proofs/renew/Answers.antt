@@ -1,6 +1,5 @@
 -- `guessing::renew` meets its contract. Assumes nothing.
 use Rattle.guessing.proofs.Room.{weigh_room, renews_made, renews_not}
-use borrow.Author.Rules.{rules}
 use Rattle.guessing.proofs.renew.Goals as goal
 
 pub renew_rows-requires : goal.renew_rows-requires

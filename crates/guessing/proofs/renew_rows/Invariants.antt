@@ -1,11 +1,8 @@
 -- `guessing::renew_rows` meets its contract: the rows before row i are without the qubit. Assumes nothing.
-use borrow.Author.Rules.{rules}
-use mathlib.Core.Path.{◌≡◌, refl, ◌∙◌}
-use Prim.Native.Nat.{◌+◌, ◌-◌, ◌≤◌}
-use native.Mathlib.Omega.{arith}
-use lib.ListN.{length, get_or}
-use Rattle.guessing.proofs.Adding.{change_small}
-use Rattle.guessing.proofs.Renewing.{Renewing, renewing_start, renewing_row, renewing_end}
+use mathlib.Core.Path.{◌≡◌}
+use Prim.Native.Nat.{◌-◌, ◌≤◌}
+use lib.ListN.{length}
+use Rattle.guessing.proofs.Renewing.{Renewing}
 use Rattle.guessing.proofs.renew_rows.Given as goal
 
 abbrev pub invariant-loop-i : goal.invariant-loop-i

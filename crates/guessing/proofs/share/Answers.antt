@@ -1,6 +1,5 @@
 -- `guessing::share` meets its contract. Assumes nothing.
 use borrow.Author.Tests.{eq-eqb, ne_eqb}
-use borrow.Author.Rules.{rules}
 use Rattle.guessing.proofs.share.Goals as goal
 
 pub returns-then-number-eq0 : goal.returns-then-number-eq0

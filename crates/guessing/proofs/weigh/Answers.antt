@@ -1,6 +1,5 @@
 -- `guessing::weigh` meets its contract. Assumes nothing.
 use Rattle.guessing.proofs.Room.{weigh_room, weighs_made, weighs_not}
-use borrow.Author.Rules.{rules}
 use Rattle.guessing.proofs.weigh.Goals as goal
 
 pub weigh_rows-requires : goal.weigh_rows-requires

@@ -1,11 +1,11 @@
 -- `guessing::weigh_rows` meets its contract: the rows before row i are counted. Assumes nothing.
 use borrow.Author.Rules.{rules}
-use mathlib.Core.Path.{◌≡◌, refl, ◌∙◌}
-use Prim.Native.Nat.{◌+◌, ◌-◌, ◌≤◌}
+use mathlib.Core.Path.{refl, ◌∙◌}
+use Prim.Native.Nat.{◌+◌}
 use native.Mathlib.Omega.{arith}
-use lib.ListN.{length, get_or}
+use lib.ListN.{get_or}
 use Rattle.guessing.proofs.Adding.{share_small}
-use Rattle.guessing.proofs.Weighing.{Counting, counting_start, counting_row, counting_end}
+use Rattle.guessing.proofs.Weighing.{counting_start, counting_row, counting_end}
 use Rattle.guessing.proofs.weigh_rows.Goals as goal
 
 pub loop-i-init : goal.loop-i-init

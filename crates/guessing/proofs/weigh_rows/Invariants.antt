@@ -1,11 +1,8 @@
 -- `guessing::weigh_rows` meets its contract: the rows before row i are counted. Assumes nothing.
-use borrow.Author.Rules.{rules}
-use mathlib.Core.Path.{◌≡◌, refl, ◌∙◌}
-use Prim.Native.Nat.{◌+◌, ◌-◌, ◌≤◌}
-use native.Mathlib.Omega.{arith}
-use lib.ListN.{length, get_or}
-use Rattle.guessing.proofs.Adding.{share_small}
-use Rattle.guessing.proofs.Weighing.{Counting, counting_start, counting_row, counting_end}
+use mathlib.Core.Path.{◌≡◌}
+use Prim.Native.Nat.{◌-◌, ◌≤◌}
+use lib.ListN.{length}
+use Rattle.guessing.proofs.Weighing.{Counting}
 use Rattle.guessing.proofs.weigh_rows.Given as goal
 
 abbrev pub invariant-loop-i : goal.invariant-loop-i

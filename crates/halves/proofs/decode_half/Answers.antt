@@ -2,7 +2,6 @@
 use native.Mathlib.Omega.{arith}
 use Rattle.halves.specs.Decode.{Given}
 use Rattle.halves.proofs.HalfDecodes.{room_then, decodes_refused, decodes_done}
-use borrow.Author.Rules.{rules}
 use Rattle.halves.proofs.decode_half.Goals as goal
 
 pub returns-in_default : goal.returns-in_default

@@ -1,6 +1,5 @@
 -- `incidence::empty` meets its contract: after q turns the first q qubits are done. Assumes nothing.
-use mathlib.Core.Path.{◌≡◌, refl, ap, ◌∙◌}
-use Prim.Native.Nat.{◌-◌, ◌≤◌}
+use mathlib.Core.Path.{refl, ap, ◌∙◌}
 use lib.ListN.{length}
 use borrow.Author.Rules.{rules}
 use Rattle.incidence.specs.Incidence.{emptied}

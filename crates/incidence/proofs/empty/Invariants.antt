@@ -1,10 +1,7 @@
 -- `incidence::empty` meets its contract: after q turns the first q qubits are done. Assumes nothing.
-use mathlib.Core.Path.{◌≡◌, refl, ap, ◌∙◌}
+use mathlib.Core.Path.{◌≡◌}
 use Prim.Native.Nat.{◌-◌, ◌≤◌}
-use lib.ListN.{length}
-use borrow.Author.Rules.{rules}
 use Rattle.incidence.specs.Incidence.{emptied}
-use Rattle.incidence.proofs.Noting.{empty_turn, empty_done, emptied_long}
 use Rattle.incidence.proofs.empty.Given as goal
 
 abbrev pub invariant-loop-q : goal.invariant-loop-q

@@ -1,7 +1,6 @@
 -- `incidence::note_all` meets its contract: what is left of the row decides. Assumes nothing.
-use mathlib.Core.Path.{◌≡◌, refl, ap, ◌∙◌}
-use Prim.Native.Nat.{◌-◌}
-use lib.ListN.{length, drop}
+use mathlib.Core.Path.{refl, ap, ◌∙◌}
+use lib.ListN.{length}
 use borrow.Author.Rules.{rules}
 use Rattle.incidence.specs.Incidence.{note_all}
 use Rattle.incidence.proofs.Noting.{note_long, all_turn, all_done}

@@ -1,10 +1,8 @@
 -- `incidence::note_all` meets its contract: what is left of the row decides. Assumes nothing.
-use mathlib.Core.Path.{◌≡◌, refl, ap, ◌∙◌}
+use mathlib.Core.Path.{◌≡◌}
 use Prim.Native.Nat.{◌-◌}
 use lib.ListN.{length, drop}
-use borrow.Author.Rules.{rules}
 use Rattle.incidence.specs.Incidence.{note_all}
-use Rattle.incidence.proofs.Noting.{note_long, all_turn, all_done}
 use Rattle.incidence.proofs.note_all.Given as goal
 
 abbrev pub invariant-loop-i : goal.invariant-loop-i

@@ -1,6 +1,5 @@
 -- `incidence::note_row` meets its contract. Assumes nothing.
 use Rattle.incidence.proofs.Noting.{row_noted}
-use borrow.Author.Rules.{rules}
 use Rattle.incidence.proofs.note_row.Goals as goal
 
 pub returns : goal.returns

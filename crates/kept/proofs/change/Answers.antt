@@ -2,7 +2,6 @@
 use mathlib.Core.Path.{refl}
 use native.Mathlib.Omega.{arith}
 use Rattle.kept.proofs.Tallying.{joined, full, parted, bare, changes, unchanged}
-use borrow.Author.Rules.{rules}
 use Rattle.kept.proofs.change.Goals as goal
 
 pub returns-then-work-lt-END : goal.returns-then-work-lt-END

@@ -1,10 +1,7 @@
 -- `kept::dangling_word` meets its contract: the rows from row j on are in the word. Assumes nothing.
 use mathlib.Core.Path.{◌≡◌}
 use Prim.Native.Nat.{◌-◌, ◌≤◌}
-use native.Mathlib.Omega.{arith}
-use borrow.Author.Rules.{rules}
 use Rattle.kept.specs.Kept.{dangling_word}
-use Rattle.kept.proofs.Finding.{word_none, word_more, word_few}
 use Rattle.kept.proofs.dangling_word.Given as goal
 
 abbrev pub invariant-loop-j : goal.invariant-loop-j

@@ -1,5 +1,5 @@
 -- `kept::find_dangling` meets its contract: the rows before row `from` are found. Assumes nothing.
-use Prim.Native.Nat.{◌+◌, ◌-◌, ◌≤◌}
+use Prim.Native.Nat.{◌+◌}
 use native.Mathlib.Omega.{arith}
 use lib.Count.{ones}
 use lib.ListN.{set}

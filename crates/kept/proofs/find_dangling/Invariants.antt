@@ -1,10 +1,6 @@
 -- `kept::find_dangling` meets its contract: the rows before row `from` are found. Assumes nothing.
-use Prim.Native.Nat.{◌+◌, ◌-◌, ◌≤◌}
-use native.Mathlib.Omega.{arith}
-use lib.Count.{ones}
-use lib.ListN.{set}
-use borrow.Author.Rules.{rules}
-use Rattle.kept.proofs.Finding.{Finding, finds_not, finding_none, finding_few, finding_word, finding_end}
+use Prim.Native.Nat.{◌-◌, ◌≤◌}
+use Rattle.kept.proofs.Finding.{Finding}
 use Rattle.kept.proofs.find_dangling.Given as goal
 
 abbrev pub invariant-loop-k : goal.invariant-loop-k

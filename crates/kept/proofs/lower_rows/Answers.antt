@@ -1,8 +1,7 @@
 -- `kept::lower_rows` meets its contract: the rows before row i are done. Assumes nothing.
 use borrow.Author.Rules.{rules}
-use Prim.Native.Nat.{◌-◌}
 use native.Mathlib.Omega.{arith}
-use Rattle.kept.proofs.Lowering.{LoweringAll, lower_start, lower_turn, lower_end}
+use Rattle.kept.proofs.Lowering.{lower_start, lower_turn, lower_end}
 use Rattle.kept.proofs.lower_rows.Goals as goal
 
 pub loop-i-init : goal.loop-i-init

@@ -1,8 +1,6 @@
 -- `kept::lower_rows` meets its contract: the rows before row i are done. Assumes nothing.
-use borrow.Author.Rules.{rules}
 use Prim.Native.Nat.{◌-◌}
-use native.Mathlib.Omega.{arith}
-use Rattle.kept.proofs.Lowering.{LoweringAll, lower_start, lower_turn, lower_end}
+use Rattle.kept.proofs.Lowering.{LoweringAll}
 use Rattle.kept.proofs.lower_rows.Given as goal
 
 abbrev pub invariant-loop-i : goal.invariant-loop-i

@@ -1,8 +1,6 @@
 -- `lines::put_answer` meets its contract. Assumes nothing.
 use Rattle.lines.proofs.Lengths.{lined, unlined, lines_most}
-use borrow.Author.Tests.{not-true, not-false}
 use mathlib.Core.Path.{sym, ◌∙◌}
-use borrow.Author.Rules.{rules}
 use Rattle.lines.proofs.put_answer.Goals as goal
 
 pub returns-then-not-has_room : goal.returns-then-not-has_room

@@ -1,7 +1,6 @@
 -- `lines::put_code` meets its contract. Assumes nothing.
 use Rattle.text.proofs.Putting.{puts_then}
 use Rattle.lines.specs.Lines.{code_line}
-use borrow.Author.Rules.{rules}
 use Rattle.lines.proofs.put_code.Goals as goal
 
 pub returns : goal.returns

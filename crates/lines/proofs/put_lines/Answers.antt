@@ -1,18 +1,7 @@
 -- `lines::put_lines` meets its contract. Assumes nothing.
-use Rattle.records.specs.contracts.Answer.{the_type}
-use Rattle.records.specs.declared.Answer.TheVariants.{Decoded}
-use Rattle.records.specs.declared.Answer.{Answer}
-use Rattle.records.specs.declared.Report.{Report}
-use mathlib.Core.Path.{◌≡◌, subst}
-use denote.Enum.Declared.{tag_of}
-use types.Run.{OneOf}
-use mathlib.Core.List.{[], ◌∷◌}
 use Rattle.lines.specs.Lines.{lines_of}
-use native.Mathlib.Omega.{arith}
-use mathlib.Core.Logic.{⊎_elim}
 use Rattle.lines.proofs.Flips.{other_lines}
 use Rattle.text.proofs.Putting.{puts_then}
-use borrow.Author.Rules.{rules}
 use Rattle.lines.proofs.put_lines.Goals as goal
 
 pub returns-in_default : goal.returns-in_default

@@ -1,6 +1,5 @@
 -- `lines::put_other` meets its contract. Assumes nothing.
 use Rattle.text.proofs.Putting.{puts_none}
-use borrow.Author.Rules.{rules}
 use Rattle.lines.proofs.put_other.Goals as goal
 
 pub returns-in-Refused : goal.returns-in-Refused

@@ -1,7 +1,6 @@
 -- `lines::put_refusal` meets its contract. Assumes nothing.
 use Rattle.text.proofs.Putting.{puts_then}
 use Rattle.lines.specs.Lines.{refused_line}
-use borrow.Author.Rules.{rules}
 use Rattle.lines.proofs.put_refusal.Goals as goal
 
 pub returns : goal.returns

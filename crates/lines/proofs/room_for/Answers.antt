@@ -1,6 +1,5 @@
 -- `lines::room_for` meets its contract. Assumes nothing.
 use Rattle.lines.specs.Lines.{room_for}
-use borrow.Author.Rules.{rules}
 use Rattle.lines.proofs.room_for.Goals as goal
 
 pub returns : goal.returns

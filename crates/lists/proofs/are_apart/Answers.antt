@@ -1,7 +1,6 @@
 -- `lists::are_apart` meets its contract. Assumes nothing.
 use native.Mathlib.Omega.{arith}
 use Rattle.lists.proofs.Copying.{part_short, from_late, to_late, both_in}
-use borrow.Author.Rules.{rules}
 use Rattle.lists.proofs.are_apart.Goals as goal
 
 pub returns-then-len-count : goal.returns-then-len-count

@@ -1,8 +1,6 @@
 -- `lists::clear_bytes` meets its contract. Assumes nothing.
-use Prim.Native.Nat.{◌-◌}
 use native.Mathlib.Omega.{arith}
-use borrow.Author.Rules.{rules}
-use Rattle.lists.proofs.Clearing.{Upto, clear_none, clear_step, clear_done}
+use Rattle.lists.proofs.Clearing.{clear_none, clear_step, clear_done}
 use Rattle.lists.proofs.clear_bytes.Goals as goal
 
 pub loop-i-init : goal.loop-i-init

@@ -1,8 +1,6 @@
 -- `lists::clear_words` meets its contract. Assumes nothing.
 use Prim.Native.Nat.{◌-◌}
-use native.Mathlib.Omega.{arith}
-use borrow.Author.Rules.{rules}
-use Rattle.lists.proofs.Clearing.{Upto, clear_none, clear_step, clear_done}
+use Rattle.lists.proofs.Clearing.{Upto}
 use Rattle.lists.proofs.clear_words.Given as goal
 
 abbrev pub invariant-loop-i : goal.invariant-loop-i

@@ -1,13 +1,8 @@
 -- `lists::copy_words` meets its contract: so many words are copied. Assumes nothing.
 use borrow.Author.Rules.{rules}
-use mathlib.Core.Path.{◌≡◌, refl, sym, ◌∙◌}
-use mathlib.Core.Bool.{true}
-use Prim.Native.Nat.{◌-◌, ◌≤◌}
+use mathlib.Core.Path.{refl, sym, ◌∙◌}
 use native.Mathlib.Omega.{arith}
-use lib.ListN.{length}
-use borrow.Author.Tests.{not-true, not-false}
-use Rattle.lists.specs.Copied.{apart?}
-use Rattle.lists.proofs.Copying.{CopiedTo, apart_out, copied_none, copied_more, copied_end, copied_not}
+use Rattle.lists.proofs.Copying.{apart_out, copied_none, copied_more, copied_end, copied_not}
 use Rattle.lists.proofs.copy_words.Goals as goal
 
 pub returns-then-not-are_apart : goal.returns-then-not-are_apart

@@ -1,5 +1,4 @@
 -- `loading::clashes` meets its contract. Assumes nothing.
-use borrow.Author.Rules.{rules}
 use Rattle.loading.proofs.clashes.Goals as goal
 
 pub returns : goal.returns

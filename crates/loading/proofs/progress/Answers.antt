@@ -1,5 +1,4 @@
 -- `loading::progress` meets its contract. Assumes nothing.
-use borrow.Author.Rules.{rules}
 use borrow.Author.Tests.{lt-ltb, le-ltb}
 use Rattle.loading.proofs.progress.Goals as goal
 

@@ -2,7 +2,6 @@
 use Prim.Native.Nat.{ℕ}
 use lib.ListN.{length-replicate, get_or-replicate}
 use Rattle.logical.proofs.Ranking.{unranked, ranked}
-use borrow.Author.Rules.{rules}
 use Rattle.logical.proofs.rank.Goals as goal
 
 pub returns-in_default : goal.returns-in_default

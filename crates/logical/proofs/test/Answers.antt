@@ -4,7 +4,6 @@ use native.Mathlib.Omega.{arith}
 use borrow.Author.Tests.{eq-eqb, ne_eqb}
 use Rattle.logical.proofs.Ranking.{all_ranked}
 use Rattle.logical.proofs.Testing.{few_sizes, codeless, is_short, differs, agrees}
-use borrow.Author.Rules.{rules}
 use Rattle.logical.proofs.test.Goals as goal
 
 pub returns-then-codeless : goal.returns-then-codeless

@@ -1,6 +1,5 @@
 -- `numbering::add_row` meets its contract. Assumes nothing.
 use Rattle.numbering.proofs.Counting.{rows_in_lem, where_inside, not_inside}
-use borrow.Author.Rules.{rules}
 use Rattle.numbering.proofs.add_row.Goals as goal
 
 pub add_words-requires : goal.add_words-requires

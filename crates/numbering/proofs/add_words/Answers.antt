@@ -1,10 +1,10 @@
 -- `numbering::add_words` meets its contract. Assumes nothing.
 use mathlib.Core.Path.{◌≡◌, refl}
-use Prim.Native.Nat.{◌-◌, ◌≤◌}
+use Prim.Native.Nat.{◌≤◌}
 use native.Mathlib.Omega.{arith}
 use lib.ListN.{length, length-set}
 use borrow.Author.Rules.{rules}
-use Rattle.numbering.proofs.Counting.{Adding, joining_none, adding_more, joined}
+use Rattle.numbering.proofs.Counting.{joining_none, adding_more, joined}
 use Rattle.numbering.proofs.add_words.Goals as goal
 
 pub loop-k-init : goal.loop-k-init

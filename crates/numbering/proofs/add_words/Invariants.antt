@@ -1,10 +1,8 @@
 -- `numbering::add_words` meets its contract. Assumes nothing.
-use mathlib.Core.Path.{◌≡◌, refl}
+use mathlib.Core.Path.{◌≡◌}
 use Prim.Native.Nat.{◌-◌, ◌≤◌}
-use native.Mathlib.Omega.{arith}
-use lib.ListN.{length, length-set}
-use borrow.Author.Rules.{rules}
-use Rattle.numbering.proofs.Counting.{Adding, joining_none, adding_more, joined}
+use lib.ListN.{length}
+use Rattle.numbering.proofs.Counting.{Adding}
 use Rattle.numbering.proofs.add_words.Given as goal
 
 abbrev pub invariant-loop-k : goal.invariant-loop-k

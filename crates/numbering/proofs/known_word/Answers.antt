@@ -1,9 +1,6 @@
 -- `numbering::known_word` meets its contract. Assumes nothing.
 use mathlib.Core.Path.{◌≡◌}
-use mathlib.Core.Logic.{⊎_elim}
-use Prim.Native.Nat.{◌-◌, ◌≤◌}
 use native.Mathlib.Omega.{arith}
-use Rattle.numbering.specs.Numbering.{KnownWord}
 use Rattle.numbering.proofs.Known.{known_none, known_yes, known_no}
 use Rattle.numbering.proofs.known_word.Goals as goal
 use Rattle.numbering.proofs.known_word.Goals.{then-is_known, else-is_known}
@@ -21,7 +18,7 @@ loop-b-preserved c =
     let r = c.is_known in (
       omega arith,
       elim c.if-is_known.branch [
-          then-is_known w ↦ rw w.word-is (known_yes _ _ _ _ _ c.loop-b.invariant.1 _ r.ensures (omega arith) w.if-is_known.true)
+        | then-is_known w ↦ rw w.word-is (known_yes _ _ _ _ _ c.loop-b.invariant.1 _ r.ensures (omega arith) w.if-is_known.true)
         | else-is_known w ↦ rw w.word-is (known_no _ _ _ _ _ c.loop-b.invariant.1 _ r.ensures w.if-is_known.false)
       ],
     )

@@ -1,10 +1,6 @@
 -- `numbering::known_word` meets its contract. Assumes nothing.
-use mathlib.Core.Path.{◌≡◌}
-use mathlib.Core.Logic.{⊎_elim}
 use Prim.Native.Nat.{◌-◌, ◌≤◌}
-use native.Mathlib.Omega.{arith}
 use Rattle.numbering.specs.Numbering.{KnownWord}
-use Rattle.numbering.proofs.Known.{known_none, known_yes, known_no}
 use Rattle.numbering.proofs.known_word.Given as goal
 
 abbrev pub invariant-loop-b : goal.invariant-loop-b

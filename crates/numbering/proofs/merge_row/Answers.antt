@@ -1,6 +1,5 @@
 -- `numbering::merge_row` meets its contract. Assumes nothing.
 use Rattle.numbering.proofs.Counting.{rows_in_lem, where_inside, not_inside}
-use borrow.Author.Rules.{rules}
 use Rattle.numbering.proofs.merge_row.Goals as goal
 
 pub merge_words-requires : goal.merge_words-requires

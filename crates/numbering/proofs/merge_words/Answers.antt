@@ -1,11 +1,11 @@
 -- `numbering::merge_words` meets its contract. Assumes nothing.
 use mathlib.Core.Path.{◌≡◌, refl}
-use Prim.Native.Nat.{◌-◌, ◌≤◌}
+use Prim.Native.Nat.{◌≤◌}
 use native.Mathlib.Omega.{arith}
 use lib.ListN.{length, length-set}
 use borrow.Author.Rules.{rules}
 use Rattle.numbering.proofs.Carries.{counted_down}
-use Rattle.numbering.proofs.Counting.{Merging, joining_none, merging_more, joined}
+use Rattle.numbering.proofs.Counting.{joining_none, merging_more, joined}
 use Rattle.numbering.proofs.merge_words.Goals as goal
 
 pub loop-k-init : goal.loop-k-init

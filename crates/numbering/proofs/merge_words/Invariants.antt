@@ -1,11 +1,8 @@
 -- `numbering::merge_words` meets its contract. Assumes nothing.
-use mathlib.Core.Path.{◌≡◌, refl}
+use mathlib.Core.Path.{◌≡◌}
 use Prim.Native.Nat.{◌-◌, ◌≤◌}
-use native.Mathlib.Omega.{arith}
-use lib.ListN.{length, length-set}
-use borrow.Author.Rules.{rules}
-use Rattle.numbering.proofs.Carries.{counted_down}
-use Rattle.numbering.proofs.Counting.{Merging, joining_none, merging_more, joined}
+use lib.ListN.{length}
+use Rattle.numbering.proofs.Counting.{Merging}
 use Rattle.numbering.proofs.merge_words.Given as goal
 
 abbrev pub invariant-loop-k : goal.invariant-loop-k

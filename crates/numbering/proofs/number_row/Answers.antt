@@ -1,14 +1,9 @@
 -- `numbering::number_row` meets its contract. Assumes nothing.
 use mathlib.Core.Path.{◌≡◌, refl, ◌∙◌}
 use mathlib.Core.Logic.{inl}
-use mathlib.Core.Bool.{false, ◌&&◌}
-use Prim.Native.Nat.{ℕ, ◌-◌, ◌≤◌, ◌<◌}
 use native.Mathlib.Omega.{arith}
-use lib.ListN.{length, get_or}
 use Rattle.binary.proofs.WordBits.{bit_zero}
-use Rattle.packing.specs.Packed.{cell}
-use Rattle.columns.specs.Columns.{untaken}
-use Rattle.numbering.proofs.Counting.{Counting, counting_none, counting_word, row_bits, counted_row}
+use Rattle.numbering.proofs.Counting.{counting_none, counting_word, row_bits, counted_row}
 use Rattle.numbering.proofs.number_row.Goals as goal
 
 pub loop-k-init : goal.loop-k-init

@@ -1,9 +1,6 @@
 -- `numbering::number_rows` meets its contract. Assumes nothing.
 use mathlib.Core.Path.{◌≡◌, refl}
-use Prim.Native.Nat.{◌-◌, ◌≤◌}
 use native.Mathlib.Omega.{arith}
-use lib.ListN.{length}
-use Rattle.numbering.specs.Numbering.{NumberedRows}
 use Rattle.numbering.proofs.Counting.{row_ends}
 use Rattle.numbering.proofs.Numbered.{rows_none, rows_more}
 use Rattle.numbering.proofs.number_rows.Goals as goal

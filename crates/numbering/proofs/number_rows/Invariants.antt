@@ -1,11 +1,8 @@
 -- `numbering::number_rows` meets its contract. Assumes nothing.
-use mathlib.Core.Path.{◌≡◌, refl}
+use mathlib.Core.Path.{◌≡◌}
 use Prim.Native.Nat.{◌-◌, ◌≤◌}
-use native.Mathlib.Omega.{arith}
 use lib.ListN.{length}
 use Rattle.numbering.specs.Numbering.{NumberedRows}
-use Rattle.numbering.proofs.Counting.{row_ends}
-use Rattle.numbering.proofs.Numbered.{rows_none, rows_more}
 use Rattle.numbering.proofs.number_rows.Given as goal
 
 abbrev pub invariant-loop-i : goal.invariant-loop-i

@@ -1,10 +1,8 @@
 -- `numbering::ripple` meets its contract. Assumes nothing.
-use mathlib.Core.Path.{◌≡◌, refl}
+use mathlib.Core.Path.{◌≡◌}
 use Prim.Native.Nat.{◌-◌, ◌≤◌}
-use native.Mathlib.Omega.{arith}
 use lib.ListN.{length}
 use Rattle.numbering.specs.Numbering.{Rippled}
-use Rattle.numbering.proofs.Carries.{rippled_none, rippled_more}
 use Rattle.numbering.proofs.ripple.Given as goal
 
 abbrev pub invariant-loop-p : goal.invariant-loop-p

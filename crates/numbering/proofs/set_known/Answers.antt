@@ -1,9 +1,6 @@
 -- `numbering::set_known` meets its contract. Assumes nothing.
 use mathlib.Core.Path.{◌≡◌, refl}
-use Prim.Native.Nat.{◌-◌, ◌≤◌}
 use native.Mathlib.Omega.{arith}
-use lib.ListN.{length}
-use Rattle.numbering.specs.Numbering.{KnownSet}
 use Rattle.numbering.proofs.Known.{set_none, set_more}
 use Rattle.numbering.proofs.set_known.Goals as goal
 

@@ -1,10 +1,8 @@
 -- `numbering::set_known` meets its contract. Assumes nothing.
-use mathlib.Core.Path.{◌≡◌, refl}
+use mathlib.Core.Path.{◌≡◌}
 use Prim.Native.Nat.{◌-◌, ◌≤◌}
-use native.Mathlib.Omega.{arith}
 use lib.ListN.{length}
 use Rattle.numbering.specs.Numbering.{KnownSet}
-use Rattle.numbering.proofs.Known.{set_none, set_more}
 use Rattle.numbering.proofs.set_known.Given as goal
 
 abbrev pub invariant-loop-k : goal.invariant-loop-k

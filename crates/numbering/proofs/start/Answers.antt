@@ -3,7 +3,6 @@ use native.Mathlib.Omega.{arith}
 use lib.ListN.{length}
 use Rattle.numbering.specs.Numbering.{startable?}
 use Rattle.numbering.proofs.Known.{startable_out, not_started, all_started}
-use borrow.Author.Rules.{rules}
 use Rattle.numbering.proofs.start.Goals as goal
 
 pub overflow_mul-w : goal.overflow_mul-w

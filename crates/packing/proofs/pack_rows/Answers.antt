@@ -2,7 +2,6 @@
 use mathlib.Core.Path.{refl}
 use Rattle.packing.specs.PackedRows.{room_for}
 use Rattle.packing.proofs.PackedRows.{room_for_out, all_put, none_put}
-use borrow.Author.Rules.{rules}
 use Rattle.packing.proofs.pack_rows.Goals as goal
 
 pub put_rows-requires : goal.put_rows-requires

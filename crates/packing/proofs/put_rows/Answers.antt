@@ -1,11 +1,9 @@
 -- `packing::put_rows` meets its contract. Assumes nothing.
-use mathlib.Core.Path.{◌≡◌, refl, ◌∙◌}
-use Prim.Native.Nat.{◌-◌, ◌≤◌, ◌<◌}
+use mathlib.Core.Path.{refl, ◌∙◌}
+use Prim.Native.Nat.{◌≤◌, ◌<◌}
 use native.Mathlib.Omega.{arith}
-use lib.ListN.{length}
 use Rattle.packing.proofs.Rows.{few_words, apart}
-use Rattle.packing.proofs.PackedRows.{Packing, packing_none, pack_more, pack_end}
-use borrow.Author.Rules.{rules}
+use Rattle.packing.proofs.PackedRows.{packing_none, pack_more, pack_end}
 use Rattle.packing.proofs.put_rows.Goals as goal
 
 pub overflow_mul-index : goal.overflow_mul-index

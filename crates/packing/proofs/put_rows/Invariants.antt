@@ -1,11 +1,8 @@
 -- `packing::put_rows` meets its contract. Assumes nothing.
-use mathlib.Core.Path.{◌≡◌, refl, ◌∙◌}
-use Prim.Native.Nat.{◌-◌, ◌≤◌, ◌<◌}
-use native.Mathlib.Omega.{arith}
+use mathlib.Core.Path.{◌≡◌}
+use Prim.Native.Nat.{◌-◌, ◌≤◌}
 use lib.ListN.{length}
-use Rattle.packing.proofs.Rows.{few_words, apart}
-use Rattle.packing.proofs.PackedRows.{Packing, packing_none, pack_more, pack_end}
-use borrow.Author.Rules.{rules}
+use Rattle.packing.proofs.PackedRows.{Packing}
 use Rattle.packing.proofs.put_rows.Given as goal
 
 abbrev pub invariant-loop-i : goal.invariant-loop-i

@@ -1,9 +1,8 @@
 -- `packing::set_bits` meets its contract. Assumes nothing.
 use mathlib.Core.Path.{◌≡◌, refl, ◌∙◌}
-use Prim.Native.Nat.{◌-◌, ◌≤◌}
 use native.Mathlib.Omega.{arith}
 use lib.ListN.{length}
-use Rattle.packing.proofs.Put.{Setting, set_start, set_more, set_end}
+use Rattle.packing.proofs.Put.{set_start, set_more, set_end}
 use Rattle.packing.proofs.set_bits.Goals as goal
 
 pub loop-j-init : goal.loop-j-init

@@ -1,9 +1,8 @@
 -- `packing::set_bits` meets its contract. Assumes nothing.
-use mathlib.Core.Path.{◌≡◌, refl, ◌∙◌}
+use mathlib.Core.Path.{◌≡◌}
 use Prim.Native.Nat.{◌-◌, ◌≤◌}
-use native.Mathlib.Omega.{arith}
 use lib.ListN.{length}
-use Rattle.packing.proofs.Put.{Setting, set_start, set_more, set_end}
+use Rattle.packing.proofs.Put.{Setting}
 use Rattle.packing.proofs.set_bits.Given as goal
 
 abbrev pub invariant-loop-j : goal.invariant-loop-j

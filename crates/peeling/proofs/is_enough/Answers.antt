@@ -1,7 +1,6 @@
 -- `peeling::is_enough` meets its contract. Assumes nothing.
 use mathlib.Core.Path.{refl}
 use Rattle.peeling.specs.Peeling.{enough?}
-use borrow.Author.Rules.{rules}
 use Rattle.peeling.proofs.is_enough.Goals as goal
 
 pub returns : goal.returns

@@ -2,7 +2,6 @@
 use mathlib.Core.Path.{refl}
 use native.Mathlib.Omega.{arith}
 use Rattle.peeling.proofs.Steps.{step_none, step_shut, p_below, step_made}
-use borrow.Author.Rules.{rules}
 use Rattle.peeling.proofs.peel_one.Goals as goal
 
 pub returns-then-rows-i : goal.returns-then-rows-i

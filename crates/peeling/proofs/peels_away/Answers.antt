@@ -1,11 +1,8 @@
 -- `peeling::peels_away` meets its contract: so many open qubits are left. Assumes nothing.
-use borrow.Author.Rules.{rules}
-use mathlib.Core.Path.{◌≡◌, ◌∙◌, ap}
+use mathlib.Core.Path.{◌∙◌, ap}
 use mathlib.Core.Bool.{true, not}
 use native.Mathlib.Omega.{arith}
-use lib.ListN.{length}
-use Rattle.peeling.specs.Peeling.{enough?}
-use Rattle.peeling.proofs.Steps.{Goes, room, enough_told, peels_refused, goes_start, peels_done, peels_stuck, goes_on}
+use Rattle.peeling.proofs.Steps.{room, enough_told, peels_refused, goes_start, peels_done, peels_stuck, goes_on}
 use Rattle.peeling.proofs.peels_away.Goals as goal
 
 pub returns-then-not-is_enough : goal.returns-then-not-is_enough

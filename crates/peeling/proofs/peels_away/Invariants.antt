@@ -1,11 +1,9 @@
 -- `peeling::peels_away` meets its contract: so many open qubits are left. Assumes nothing.
-use borrow.Author.Rules.{rules}
-use mathlib.Core.Path.{◌≡◌, ◌∙◌}
+use mathlib.Core.Path.{◌≡◌}
 use mathlib.Core.Bool.{true}
-use native.Mathlib.Omega.{arith}
 use lib.ListN.{length}
 use Rattle.peeling.specs.Peeling.{enough?}
-use Rattle.peeling.proofs.Steps.{Goes, room, enough_told, peels_refused, goes_start, peels_done, peels_stuck, goes_on}
+use Rattle.peeling.proofs.Steps.{Goes}
 use Rattle.peeling.proofs.peels_away.Given as goal
 
 abbrev pub invariant-loop-left : goal.invariant-loop-left

@@ -1,6 +1,5 @@
 -- `plain::answered` meets its contract. Assumes nothing.
 use mathlib.Core.Path.{◌≡◌, ◌∙◌, sym, ap}
-use borrow.Author.Rules.{rules}
 use Rattle.records.specs.declared.Answer.{Answer}
 use Rattle.plain.specs.declared.RackState.{RackState}
 use Rattle.plain.specs.Plain.{plain_answer}

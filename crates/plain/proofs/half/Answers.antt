@@ -1,5 +1,4 @@
 -- `plain::half` meets its contract. Assumes nothing.
-use borrow.Author.Rules.{rules}
 use Rattle.plain.proofs.half.Goals as goal
 
 pub returns : goal.returns

@@ -1,6 +1,5 @@
 -- `plain::reply` meets its contract. Assumes nothing.
 use mathlib.Core.Path.{◌∙◌}
-use borrow.Author.Rules.{rules}
 use Rattle.plain.proofs.reply.Goals as goal
 
 pub returns : goal.returns

@@ -1,5 +1,4 @@
 -- `plain::reported` meets its contract. Assumes nothing.
-use borrow.Author.Rules.{rules}
 use Rattle.plain.proofs.reported.Goals as goal
 
 pub returns : goal.returns

@@ -1,5 +1,4 @@
 -- `plain::state` meets its contract. Assumes nothing.
-use borrow.Author.Rules.{rules}
 use Rattle.plain.proofs.Numbers.{flag_cast}
 use Rattle.plain.proofs.state.Goals as goal
 

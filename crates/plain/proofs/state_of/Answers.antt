@@ -1,5 +1,4 @@
 -- `plain::state_of` meets its contract. Assumes nothing.
-use borrow.Author.Rules.{rules}
 use Rattle.plain.proofs.state_of.Goals as goal
 
 pub returns : goal.returns

@@ -1,5 +1,4 @@
 -- `plain::unreported` meets its contract. Assumes nothing.
-use borrow.Author.Rules.{rules}
 use Rattle.plain.proofs.unreported.Goals as goal
 
 pub returns : goal.returns

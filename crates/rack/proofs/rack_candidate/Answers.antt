@@ -1,5 +1,4 @@
 -- `rack::rack_candidate` meets its contract. Assumes nothing.
-use borrow.Author.Rules.{rules}
 use Rattle.rack.proofs.Promising.{rack_gives}
 use Rattle.rack.proofs.rack_candidate.Goals as goal
 

@@ -1,5 +1,4 @@
 -- `rack::rack_fresh` meets its contract. Assumes nothing.
-use borrow.Author.Rules.{rules}
 use Rattle.rack.proofs.rack_fresh.Goals as goal
 
 pub returns : goal.returns

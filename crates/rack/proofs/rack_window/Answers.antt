@@ -3,7 +3,6 @@ use mathlib.Core.Path.{◌∙◌, ap}
 use Rattle.records.specs.declared.State.{State}
 use Rattle.window_meaning.specs.Read.{window_answer}
 use Rattle.rack.specs.Counts.{plain_window}
-use borrow.Author.Rules.{rules}
 use Rattle.rack.proofs.rack_window.Goals as goal
 
 pub returns : goal.returns

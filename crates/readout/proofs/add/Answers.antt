@@ -6,7 +6,6 @@ use Rattle.records.specs.declared.Refusal.TheVariants.{Codeless, Range, Twice, S
 use Rattle.records.specs.declared.Answer.TheVariants.{Taken}
 use Rattle.records.specs.declared.Reply.{Reply}
 use Rattle.readout.proofs.Adding.{mark_refused, mark_taken, reply_codeless, reply_range, reply_short, reply_twice, reply_taken}
-use borrow.Author.Rules.{rules}
 use Rattle.readout.proofs.add.Goals as goal
 
 pub returns-then-codeless : goal.returns-then-codeless

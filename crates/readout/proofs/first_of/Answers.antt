@@ -1,6 +1,5 @@
 -- `readout::first_of` meets its contract. Assumes nothing.
 use native.Mathlib.Omega.{arith}
-use borrow.Author.Rules.{rules}
 use Rattle.readout.proofs.first_of.Goals as goal
 
 pub returns : goal.returns

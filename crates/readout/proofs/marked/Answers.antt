@@ -1,6 +1,5 @@
 -- `readout::marked` meets its contract; past the list every element is 0. Assumes nothing.
 use Prim.Native.Nat.{ℕ}
-use borrow.Author.Rules.{rules}
 use lib.ListN.{get_or-eq_default}
 use Rattle.readout.proofs.marked.Goals as goal
 

@@ -1,5 +1,4 @@
 -- `readout::note_row` meets its contract. Assumes nothing.
-use borrow.Author.Rules.{rules}
 use Rattle.readout.proofs.Adding.{notes}
 use Rattle.readout.proofs.note_row.Goals as goal
 

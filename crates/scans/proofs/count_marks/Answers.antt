@@ -1,12 +1,11 @@
 -- `scans::count_marks` meets its contract: the marks so far are counted. Assumes nothing.
 use mathlib.Core.Path.{◌≡◌, refl, ap, ◌∙◌}
-use mathlib.Core.Logic.{⊎_elim}
-use Prim.Native.Nat.{ℕ, ◌-◌, ◌≤◌}
+use Prim.Native.Nat.{ℕ}
 use native.Mathlib.Omega.{arith}
 use borrow.Author.Rules.{rules}
 use Rattle.machine.specs.Report.{marked}
 use Rattle.machine.specs.Lists.{view}
-use Rattle.scans.proofs.Scanning.{short_marks, counted, marked_yes, marked_no}
+use Rattle.scans.proofs.Scanning.{short_marks, counted}
 use Rattle.scans.proofs.count_marks.Goals as goal
 
 pub returns-then-marks-size : goal.returns-then-marks-size

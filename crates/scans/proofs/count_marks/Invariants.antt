@@ -1,12 +1,8 @@
 -- `scans::count_marks` meets its contract: the marks so far are counted. Assumes nothing.
-use mathlib.Core.Path.{◌≡◌, refl, ap, ◌∙◌}
-use mathlib.Core.Logic.{⊎_elim}
-use Prim.Native.Nat.{ℕ, ◌-◌, ◌≤◌}
-use native.Mathlib.Omega.{arith}
-use borrow.Author.Rules.{rules}
+use mathlib.Core.Path.{◌≡◌}
+use Prim.Native.Nat.{◌-◌, ◌≤◌}
 use Rattle.machine.specs.Report.{marked}
 use Rattle.machine.specs.Lists.{view}
-use Rattle.scans.proofs.Scanning.{short_marks, counted, marked_yes, marked_no}
 use Rattle.scans.proofs.count_marks.Given as goal
 
 abbrev pub invariant-loop-q : goal.invariant-loop-q

@@ -1,10 +1,8 @@
 -- `scans::first_open` meets its contract: no qubit so far is open. Assumes nothing.
 use borrow.Author.Rules.{rules}
-use mathlib.Core.Path.{◌≡◌, refl, sym, ◌∙◌}
-use Prim.Native.Nat.{◌-◌, ◌≤◌}
+use mathlib.Core.Path.{refl, sym, ◌∙◌}
 use native.Mathlib.Omega.{arith}
-use lib.ListN.{length, drop}
-use Rattle.machine.specs.Machine.{is_open, part}
+use Rattle.machine.specs.Machine.{is_open}
 use Rattle.machine.specs.Lists.{view}
 use Rattle.scans.proofs.Scanning.{part_no}
 use Rattle.scans.proofs.first_open.Goals as goal

@@ -1,12 +1,9 @@
 -- `scans::first_open` meets its contract: no qubit so far is open. Assumes nothing.
-use borrow.Author.Rules.{rules}
-use mathlib.Core.Path.{◌≡◌, refl, sym, ◌∙◌}
+use mathlib.Core.Path.{◌≡◌}
 use Prim.Native.Nat.{◌-◌, ◌≤◌}
-use native.Mathlib.Omega.{arith}
 use lib.ListN.{length, drop}
 use Rattle.machine.specs.Machine.{is_open, part}
 use Rattle.machine.specs.Lists.{view}
-use Rattle.scans.proofs.Scanning.{part_no}
 use Rattle.scans.proofs.first_open.Given as goal
 
 abbrev pub invariant-loop-i : goal.invariant-loop-i

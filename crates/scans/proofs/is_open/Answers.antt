@@ -3,7 +3,6 @@ use native.Mathlib.Omega.{arith}
 use Prim.Native.Nat.{ℕ}
 use lib.ListN.{get_or-eq_default}
 use Rattle.scans.proofs.Scanning.{open_past, shut, open_read}
-use borrow.Author.Rules.{rules}
 use Rattle.scans.proofs.is_open.Goals as goal
 
 pub returns-then-n-at : goal.returns-then-n-at

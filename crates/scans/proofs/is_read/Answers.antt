@@ -1,7 +1,6 @@
 -- `scans::is_read` meets its contract; past the list every element is 0. Assumes nothing.
 use Prim.Native.Nat.{ℕ}
 use lib.ListN.{get_or-eq_default}
-use borrow.Author.Rules.{rules}
 use Rattle.scans.proofs.is_read.Goals as goal
 
 pub returns-then-lit-at : goal.returns-then-lit-at

@@ -1,6 +1,5 @@
 -- `scans::read_row` meets its contract. Assumes nothing.
 use mathlib.Core.Path.{refl}
-use borrow.Author.Rules.{rules}
 use Rattle.scans.proofs.read_row.Goals as goal
 
 pub returns-then-is_read : goal.returns-then-is_read

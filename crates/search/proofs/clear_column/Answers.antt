@@ -3,7 +3,6 @@ use Prim.Native.Nat.{◌<◌}
 use native.Mathlib.Nat.{mul-le-mul_right}
 use native.Mathlib.Omega.{arith}
 use Rattle.search.proofs.Rows.{one_less_lem, clears_none, clears_top, clears_moved}
-use borrow.Author.Rules.{rules}
 use Rattle.search.proofs.clear_column.Goals as goal
 
 pub returns-then-i-rows : goal.returns-then-i-rows

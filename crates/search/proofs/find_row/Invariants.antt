@@ -1,11 +1,8 @@
 -- `search::find_row` meets its contract. Assumes nothing.
-use mathlib.Core.Path.{◌≡◌, sym, ◌∙◌}
+use mathlib.Core.Path.{◌≡◌}
 use mathlib.Core.Bool.{false}
 use Prim.Native.Nat.{ℕ, ◌-◌, ◌≤◌, ◌<◌}
-use native.Mathlib.Omega.{arith}
 use Rattle.packing.specs.Packed.{cell}
-use Rattle.packing.proofs.Rows.{apart}
-use Rattle.search.proofs.Rows.{none_more}
 use Rattle.search.proofs.find_row.Given as goal
 
 abbrev pub invariant-loop-i : goal.invariant-loop-i

@@ -1,11 +1,9 @@
 -- `search::leave` meets its contract: row j is the last one with the column so far. Assumes nothing.
 use mathlib.Core.Path.{◌∙◌}
-use Prim.Native.Nat.{◌+◌, ◌≤◌, ◌<◌}
+use Prim.Native.Nat.{◌+◌, ◌<◌}
 use native.Mathlib.Nat.{le_refl}
 use native.Mathlib.Omega.{arith}
-use borrow.Author.Rules.{rules}
-use Rattle.columns.specs.Columns.{rows_with}
-use Rattle.search.proofs.Rows.{one_less_lem, rest_same, made_out, Later, later_none, later_to, later_added, leaves_alone, leaves_merged}
+use Rattle.search.proofs.Rows.{one_less_lem, rest_same, made_out, later_none, later_to, later_added, leaves_alone, leaves_merged}
 use Rattle.search.proofs.leave.Goals as goal
 
 pub returns-then-first-rows : goal.returns-then-first-rows

@@ -2,9 +2,7 @@
 use mathlib.Core.Bool.{not}
 use mathlib.Core.Path.{ap, sym, ◌∙◌}
 use native.Mathlib.Omega.{arith}
-use borrow.Author.Tests.{not-false}
 use Rattle.search.proofs.Marked.{enough_out, started, sound_start, not_marked, all_marked}
-use borrow.Author.Rules.{rules}
 use Rattle.search.proofs.mark_fixed.Goals as goal
 
 pub returns-then-not-long_enough : goal.returns-then-not-long_enough

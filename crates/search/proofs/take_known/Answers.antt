@@ -1,12 +1,7 @@
 -- `search::take_known` meets its contract. Assumes nothing.
-use mathlib.Core.Path.{◌≡◌, refl, ◌∙◌}
-use mathlib.Core.Logic.{⊎_elim}
-use Prim.Native.Nat.{◌-◌, ◌≤◌}
+use mathlib.Core.Path.{refl, ◌∙◌}
 use native.Mathlib.Omega.{arith}
 use borrow.Author.Rules.{rules}
-use lib.ListN.{length}
-use Rattle.search.specs.Route.{steps}
-use Rattle.search.specs.Search.{stand_of, Sound}
 use Rattle.search.proofs.Knowns.{none_taken, fewer, column_in, as_counted, blank, known_more, knowns_end, knowns_idle, knowns_empty}
 use Rattle.search.proofs.take_known.Goals as goal
 use Rattle.search.proofs.take_known.Goals.{then-next-gt0+else-top-rows, else-next-gt0}
@@ -65,6 +60,6 @@ loop-k-preserved c =
     let a = c.args in
     let few = fewer a.n a.w a.rows l.top l.work _ _ (search rules) (search rules) (search rules) l.invariant.1 (omega (arith, l.invariant.2)) l.invariant.3 f.ensures c.if-next-eq1024.false in
     elim c.if-next-gt0.branch [
-        then-next-gt0+else-top-rows w ↦ rw (w.work-is, w.top-is) (known_more a.n a.w a.rows l.top l.work _ _ (search rules) (search rules) (search rules) l.invariant.1 (omega (arith, l.invariant.2)) l.invariant.3 f.ensures few _ _ w.take_column-top.ensures _ _ _ (search rules) l.invariant.2 l.invariant.4)
+      | then-next-gt0+else-top-rows w ↦ rw (w.work-is, w.top-is) (known_more a.n a.w a.rows l.top l.work _ _ (search rules) (search rules) (search rules) l.invariant.1 (omega (arith, l.invariant.2)) l.invariant.3 f.ensures few _ _ w.take_column-top.ensures _ _ _ (search rules) l.invariant.2 l.invariant.4)
       | else-next-gt0 w ↦ rw (w.work-is, w.top-is) (known_more a.n a.w a.rows l.top l.work _ _ (search rules) (search rules) (search rules) l.invariant.1 (omega (arith, l.invariant.2)) l.invariant.3 f.ensures few _ _ (blank a.n a.w a.rows l.top l.work _ _ (search rules) (search rules) (search rules) l.invariant.1 (omega (arith, l.invariant.2)) l.invariant.3 f.ensures few (omega arith)) _ _ _ (search rules) l.invariant.2 l.invariant.4)
     ]

@@ -1,13 +1,9 @@
 -- `search::take_known` meets its contract. Assumes nothing.
-use mathlib.Core.Path.{◌≡◌, refl, ◌∙◌}
-use mathlib.Core.Logic.{⊎_elim}
+use mathlib.Core.Path.{◌≡◌}
 use Prim.Native.Nat.{◌-◌, ◌≤◌}
-use native.Mathlib.Omega.{arith}
-use borrow.Author.Rules.{rules}
 use lib.ListN.{length}
 use Rattle.search.specs.Route.{steps}
 use Rattle.search.specs.Search.{stand_of, Sound}
-use Rattle.search.proofs.Knowns.{none_taken, fewer, column_in, as_counted, blank, known_more, knowns_end, knowns_idle, knowns_empty}
 use Rattle.search.proofs.take_known.Given as goal
 
 abbrev pub invariant-loop-k : goal.invariant-loop-k

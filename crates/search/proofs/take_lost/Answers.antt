@@ -1,10 +1,7 @@
 -- `search::take_lost` meets its contract. Assumes nothing.
 use mathlib.Core.Path.{◌≡◌, refl, ◌∙◌}
-use Prim.Native.Nat.{◌-◌, ◌≤◌}
 use native.Mathlib.Omega.{arith}
 use borrow.Author.Rules.{rules}
-use lib.ListN.{length}
-use Rattle.search.specs.Search.{Losts}
 use Rattle.search.proofs.Losts.{losts_none, losts_more}
 use Rattle.search.proofs.take_lost.Goals as goal
 

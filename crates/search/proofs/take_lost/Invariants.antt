@@ -1,11 +1,8 @@
 -- `search::take_lost` meets its contract. Assumes nothing.
-use mathlib.Core.Path.{◌≡◌, refl, ◌∙◌}
+use mathlib.Core.Path.{◌≡◌}
 use Prim.Native.Nat.{◌-◌, ◌≤◌}
-use native.Mathlib.Omega.{arith}
-use borrow.Author.Rules.{rules}
 use lib.ListN.{length}
 use Rattle.search.specs.Search.{Losts}
-use Rattle.search.proofs.Losts.{losts_none, losts_more}
 use Rattle.search.proofs.take_lost.Given as goal
 
 abbrev pub invariant-loop-q : goal.invariant-loop-q

@@ -1,7 +1,6 @@
 -- `starting::is_enough` meets its contract. Assumes nothing.
 use mathlib.Core.Path.{refl}
 use Rattle.starting.specs.Starting.{enough?}
-use borrow.Author.Rules.{rules}
 use Rattle.starting.proofs.is_enough.Goals as goal
 
 pub returns : goal.returns

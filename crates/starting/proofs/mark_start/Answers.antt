@@ -1,9 +1,7 @@
 -- `starting::mark_start` meets its contract. Assumes nothing.
 use mathlib.Core.Path.{sym, ◌∙◌}
 use native.Mathlib.Omega.{arith}
-use borrow.Author.Tests.{not-true, not-false}
 use Rattle.starting.proofs.Ways.{marks_not, marks_searched, searchable_out}
-use borrow.Author.Rules.{rules}
 use Rattle.starting.proofs.mark_start.Goals as goal
 
 pub returns-then-not-can_search : goal.returns-then-not-can_search

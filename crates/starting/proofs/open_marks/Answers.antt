@@ -2,7 +2,6 @@
 use borrow.Author.Tests.{leb-true}
 use Rattle.binary.proofs.Bits.{and_out}
 use Rattle.starting.proofs.Ways.{opens_made, opens_not}
-use borrow.Author.Rules.{rules}
 use Rattle.starting.proofs.open_marks.Goals as goal
 
 pub start_marks-requires : goal.start_marks-requires

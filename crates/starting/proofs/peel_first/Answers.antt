@@ -1,6 +1,5 @@
 -- `starting::peel_first` meets its contract. Assumes nothing.
 use Rattle.starting.proofs.Ways.{peeled_first}
-use borrow.Author.Rules.{rules}
 use Rattle.starting.proofs.peel_first.Goals as goal
 
 pub returns : goal.returns

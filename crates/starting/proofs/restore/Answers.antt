@@ -1,6 +1,5 @@
 -- `starting::restore` meets its contract. Assumes nothing.
 use Rattle.starting.proofs.Ways.{restores}
-use borrow.Author.Rules.{rules}
 use Rattle.starting.proofs.restore.Goals as goal
 
 pub returns : goal.returns

@@ -1,6 +1,5 @@
 -- `starting::save` meets its contract. Assumes nothing.
 use Rattle.starting.proofs.Ways.{saves}
-use borrow.Author.Rules.{rules}
 use Rattle.starting.proofs.save.Goals as goal
 
 pub returns : goal.returns

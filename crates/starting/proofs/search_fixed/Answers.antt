@@ -3,7 +3,6 @@ use mathlib.Core.Path.{◌∙◌}
 use native.Mathlib.Omega.{arith}
 use Rattle.packing.proofs.PackedRows.{room_for_in}
 use Rattle.starting.proofs.Ways.{searched}
-use borrow.Author.Rules.{rules}
 use Rattle.starting.proofs.search_fixed.Goals as goal
 
 pub returns : goal.returns

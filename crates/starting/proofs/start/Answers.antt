@@ -1,9 +1,7 @@
 -- `starting::start` meets its contract. Assumes nothing.
 use mathlib.Core.Path.{sym, ◌∙◌}
 use native.Mathlib.Omega.{arith}
-use borrow.Author.Tests.{not-true, not-false}
 use Rattle.starting.proofs.Ways.{starts_not, enough_out, starts_peeled, starts_searched}
-use borrow.Author.Rules.{rules}
 use Rattle.starting.proofs.start.Goals as goal
 
 pub returns-then-not-is_enough : goal.returns-then-not-is_enough

@@ -1,11 +1,7 @@
 -- `starting::start_marks` meets its contract: the first q qubits are marked. Assumes nothing.
 use mathlib.Core.Path.{◌∙◌}
-use mathlib.Core.Logic.{⊎_elim}
-use Prim.Native.Nat.{◌-◌, ◌≤◌}
 use borrow.Author.Rules.{rules}
-use Rattle.lists.specs.Filled.{Filled}
 use Rattle.lists.proofs.Filling.{fill_none, fill_turn, fill_end}
-use Rattle.starting.specs.Starting.{open_mark}
 use Rattle.starting.proofs.OpenMarks.{lost_open, kept_unmarked}
 use Rattle.starting.proofs.start_marks.Goals as goal
 use Rattle.starting.proofs.start_marks.Goals.{then-lost-q-eq1, else-lost-q-eq1}
@@ -25,7 +21,7 @@ loop-q-preserved c =
       search rules,
       fill_turn _ _ _ _ _ c.loop-q.invariant.1 (search rules)
           (elim c.if-lost-q-eq1.branch [
-              then-lost-q-eq1 w ↦ w.marks-is ∙ lost_open args.n args.lost.now c.loop-q.q (search rules) w.if-lost-q-eq1.true
+            | then-lost-q-eq1 w ↦ w.marks-is ∙ lost_open args.n args.lost.now c.loop-q.q (search rules) w.if-lost-q-eq1.true
             | else-lost-q-eq1 w ↦ w.marks-is ∙ kept_unmarked args.n args.lost.now c.loop-q.q (search rules) w.if-lost-q-eq1.false
           ]),
     )

@@ -1,12 +1,7 @@
 -- `starting::start_marks` meets its contract: the first q qubits are marked. Assumes nothing.
-use mathlib.Core.Path.{◌∙◌}
-use mathlib.Core.Logic.{⊎_elim}
 use Prim.Native.Nat.{◌-◌, ◌≤◌}
-use borrow.Author.Rules.{rules}
 use Rattle.lists.specs.Filled.{Filled}
-use Rattle.lists.proofs.Filling.{fill_none, fill_turn, fill_end}
 use Rattle.starting.specs.Starting.{open_mark}
-use Rattle.starting.proofs.OpenMarks.{lost_open, kept_unmarked}
 use Rattle.starting.proofs.start_marks.Given as goal
 
 abbrev pub invariant-loop-q : goal.invariant-loop-q

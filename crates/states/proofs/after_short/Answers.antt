@@ -1,5 +1,4 @@
 -- `states::after_short` meets its contract. Assumes nothing.
-use borrow.Author.Rules.{rules}
 use Rattle.states.proofs.after_short.Goals as goal
 
 pub returns-then-decode : goal.returns-then-decode

@@ -1,5 +1,4 @@
 -- `states::left` meets its contract: each arm is a line of the table. Assumes nothing.
-use borrow.Author.Rules.{rules}
 use Rattle.states.proofs.left.Goals as goal
 
 pub returns-in-Unknown : goal.returns-in-Unknown

@@ -2,7 +2,6 @@
 use mathlib.Core.Path.{ap}
 use Rattle.records.specs.declared.State.{State}
 use Rattle.records.specs.declared.Answer.TheVariants.{Refused}
-use borrow.Author.Rules.{rules}
 use Rattle.states.proofs.refused.Goals as goal
 
 pub returns : goal.returns

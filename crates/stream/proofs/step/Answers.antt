@@ -1,7 +1,6 @@
 -- `stream::step` meets its contract: a decode, or any other record. Assumes nothing.
 use mathlib.Core.Path.{sym, ◌∙◌}
 use Rattle.stream.proofs.Taking.{step_decode, step_other}
-use borrow.Author.Rules.{rules}
 use Rattle.stream.proofs.step.Goals as goal
 
 pub returns-then-is_decode : goal.returns-then-is_decode

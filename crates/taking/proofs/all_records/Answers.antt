@@ -1,13 +1,8 @@
 -- `taking::all_records` meets its contract. Assumes nothing.
-use mathlib.Core.Path.{◌≡◌, refl, sym, ◌∙◌}
-use mathlib.Core.Logic.{◌⊎◌, inl, inr, ⊎_elim}
-use Prim.Native.Nat.{◌-◌, ◌≤◌, ◌<◌}
+use mathlib.Core.Path.{refl, sym, ◌∙◌}
+use mathlib.Core.Logic.{inl, inr, ⊎_elim}
 use native.Mathlib.Omega.{arith}
-use borrow.Author.Rules.{rules}
-use lib.ListN.{length, length-set}
-use Rattle.claim.specs.Calls.{passed}
-use Rattle.taking.specs.Taking.{Took}
-use Rattle.taking.specs.Progress.{stand_of, Going}
+use lib.ListN.{length-set}
 use Rattle.cutting.proofs.Nexts.{next_at}
 use Rattle.taking.proofs.Calls.{took_none}
 use Rattle.taking.proofs.Loop.{turn_took, turn_going, turn_onward, turn_within}

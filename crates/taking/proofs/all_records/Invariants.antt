@@ -1,16 +1,11 @@
 -- `taking::all_records` meets its contract. Assumes nothing.
-use mathlib.Core.Path.{◌≡◌, refl, sym, ◌∙◌}
-use mathlib.Core.Logic.{◌⊎◌, inl, inr, ⊎_elim}
+use mathlib.Core.Path.{◌≡◌}
+use mathlib.Core.Logic.{◌⊎◌}
 use Prim.Native.Nat.{◌-◌, ◌≤◌, ◌<◌}
-use native.Mathlib.Omega.{arith}
-use borrow.Author.Rules.{rules}
-use lib.ListN.{length, length-set}
+use lib.ListN.{length}
 use Rattle.claim.specs.Calls.{passed}
 use Rattle.taking.specs.Taking.{Took}
 use Rattle.taking.specs.Progress.{stand_of, Going}
-use Rattle.cutting.proofs.Nexts.{next_at}
-use Rattle.taking.proofs.Calls.{took_none}
-use Rattle.taking.proofs.Loop.{turn_took, turn_going, turn_onward, turn_within}
 use Rattle.taking.proofs.all_records.Given as goal
 
 abbrev pub invariant-loop-p : goal.invariant-loop-p

@@ -1,5 +1,4 @@
 -- `taking::begin` meets its contract. Assumes nothing.
-use borrow.Author.Rules.{rules}
 use Rattle.taking.proofs.begin.Goals as goal
 
 pub returns : goal.returns

@@ -1,6 +1,5 @@
 -- `taking::take_records` meets its contract. Assumes nothing.
 use Rattle.taking.proofs.Answers.{begin_ready}
-use borrow.Author.Rules.{rules}
 use Rattle.taking.proofs.take_records.Goals as goal
 
 pub all_records-requires : goal.all_records-requires

@@ -1,7 +1,6 @@
 -- `trying::is_enough` meets its contract. Assumes nothing.
 use mathlib.Core.Path.{refl}
 use Rattle.trying.specs.Trying.{enough?}
-use borrow.Author.Rules.{rules}
 use Rattle.trying.proofs.is_enough.Goals as goal
 
 pub returns : goal.returns

@@ -3,7 +3,6 @@ use mathlib.Core.Path.{refl, ◌∙◌}
 use native.Mathlib.Omega.{arith}
 use Rattle.turns.specs.Turns.{Working}
 use Rattle.trying.proofs.Trying.{tried_unknown, tried_run}
-use borrow.Author.Rules.{rules}
 use Rattle.trying.proofs.tried.Goals as goal
 
 pub returns-in_default : goal.returns-in_default

@@ -1,13 +1,11 @@
 -- `trying::try_turns` meets its contract. Assumes nothing.
-use mathlib.Core.Path.{◌≡◌, refl, sym, ◌∙◌, subst}
+use mathlib.Core.Path.{refl, sym, ◌∙◌, subst}
 use mathlib.Core.Bool.{Bool, true, false}
 use native.Mathlib.Omega.{arith}
-use borrow.Author.Tests.{not-false}
 use Rattle.binary.proofs.Bits.{never}
 use Rattle.turns.specs.Turns.{Working}
 use Rattle.trying.specs.Trying.{Tried}
 use Rattle.trying.proofs.Trying.{enough_out, tries_refused, tries_told, tries_unknown}
-use borrow.Author.Rules.{rules}
 use Rattle.trying.proofs.try_turns.Goals as goal
 
 pub returns-then-not-is_enough : goal.returns-then-not-is_enough

@@ -7,7 +7,6 @@ use Rattle.binary.proofs.Bits.{and_out}
 use Rattle.scans.specs.Rows.{RowLists}
 use Rattle.turns.specs.Turns.{Working}
 use Rattle.turns.proofs.Marked.{enough_out, enough_told, answers_refused, answers_over}
-use borrow.Author.Rules.{rules}
 use Rattle.turns.proofs.go_on.Goals as goal
 
 pub returns-then-not-is_enough-made : goal.returns-then-not-is_enough-made

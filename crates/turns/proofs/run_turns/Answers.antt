@@ -4,7 +4,6 @@ use mathlib.Core.Bool.{not}
 use Rattle.scans.specs.Rows.{RowLists}
 use Rattle.turns.specs.Turns.{Working}
 use Rattle.turns.proofs.Marked.{enough_out, enough_told, answers_refused, answers_over}
-use borrow.Author.Rules.{rules}
 use Rattle.turns.proofs.run_turns.Goals as goal
 
 pub returns-then-not-is_enough : goal.returns-then-not-is_enough

@@ -3,7 +3,6 @@ use Rattle.window.proofs.Lengths.{below, enough}
 use Rattle.window.proofs.Entering.{enters_short, enters_more, enters_again}
 use native.Mathlib.Omega.{arith}
 use lib.ListN.{length}
-use borrow.Author.Rules.{rules}
 use Rattle.window.proofs.enter.Goals as goal
 
 pub returns-then-is_short : goal.returns-then-is_short

@@ -1,7 +1,6 @@
 -- `window::put_half` meets its contract. Assumes nothing.
 use Rattle.window.proofs.Entering.{half_in_lem}
 use native.Mathlib.Omega.{arith}
-use borrow.Author.Rules.{rules}
 use lib.ListN.{length-set}
 use Rattle.window.proofs.put_half.Goals as goal
 

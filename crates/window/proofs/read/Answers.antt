@@ -1,7 +1,6 @@
 -- `window::read` meets its contract. Assumes nothing.
 use native.Mathlib.Omega.{arith}
 use lib.ListN.{length}
-use borrow.Author.Rules.{rules}
 use Rattle.window.proofs.Lengths.{below, enough}
 use Rattle.window.proofs.Counts.{kept_small, read_short, read_counted}
 use Rattle.window.proofs.read.Goals as goal

@@ -1,7 +1,6 @@
 -- `bicycle_codes::table::number` meets its contract: the rule computed once over all entries. Assumes nothing.
 use mathlib.Core.Path.{refl}
 use Rattle.bicycle_codes.specs.Bicycle.{flat_rows, x_row, z_row, forward, backward}
-use borrow.Author.Rules.{rules}
 use Rattle.bicycle_codes.proofs.table.number.Reads as reads
 use Rattle.bicycle_codes.proofs.table.number.Lts as lts
 use Rattle.bicycle_codes.proofs.table.number.Goals as goal

@@ -1,11 +1,6 @@
 -- `bicycle_codes::table::write_72` meets its contract: after k turns the first k numbers are written. Assumes nothing.
-use Prim.Native.Nat.{◌-◌, ◌≤◌}
 use native.Mathlib.Omega.{arith}
-use lib.ListN.{length, get_or}
-use Rattle.lists.specs.Filled.{Filled}
 use Rattle.lists.proofs.Filling.{fill_none, fill_turn, fill_end}
-use Rattle.bicycle_codes.specs.Bicycle.{flat_rows}
-use Rattle.bicycle_codes.specs.Table.{code72}
 use Rattle.bicycle_codes.proofs.SeventyTwo.{short_table, whole_table}
 use Rattle.bicycle_codes.proofs.table.write_72.Goals as goal
 

@@ -1,12 +1,8 @@
 -- `forms::replacing::add_below` meets its contract: the words below word u are added. Assumes nothing.
-use mathlib.Core.Path.{◌≡◌, ◌∙◌}
 use Prim.Native.Nat.{◌-◌, ◌≤◌}
-use native.Mathlib.Omega.{arith}
 use Rattle.forms.specs.Words.{side_in}
 use Rattle.forms.specs.Changes.{Changed, adding_below}
 use Rattle.forms.specs.Sides.{check}
-use Rattle.forms.proofs.Changing.{side_kept, below_start, below_turn}
-use borrow.Author.Rules.{rules}
 use Rattle.forms.proofs.replacing.add_below.Given as goal
 
 abbrev pub invariant-loop-u : goal.invariant-loop-u

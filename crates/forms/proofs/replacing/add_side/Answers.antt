@@ -1,10 +1,6 @@
 -- `forms::replacing::add_side` meets its contract: the first q forms are done. Assumes nothing.
 use mathlib.Core.Path.{◌≡◌}
-use mathlib.Core.Logic.{⊎_elim}
-use Prim.Native.Nat.{◌-◌, ◌≤◌}
 use native.Mathlib.Omega.{arith}
-use Rattle.binary.specs.Words.{bit}
-use Rattle.forms.specs.Changes.{Changed, adding}
 use Rattle.forms.proofs.Changing.{changed_start, added_turn, added_skip}
 use Rattle.forms.proofs.WordBits.{odd_bit, even_bit}
 use borrow.Author.Rules.{rules}
@@ -22,6 +18,6 @@ loop-q-preserved c =
     let l = c.loop-q in
     let e = l.invariant.1.long in
     elim c.if-forms-guess-eq1.branch [
-        then-forms-guess-eq1 w ↦ rw w.forms-is (omega arith, added_turn _ _ _ _ _ _ _ c.requires.1 c.requires.3 (omega arith) l.invariant.1 (odd_bit _ _ w.if-forms-guess-eq1.true))
+      | then-forms-guess-eq1 w ↦ rw w.forms-is (omega arith, added_turn _ _ _ _ _ _ _ c.requires.1 c.requires.3 (omega arith) l.invariant.1 (odd_bit _ _ w.if-forms-guess-eq1.true))
       | else-forms-guess-eq1 w ↦ rw w.forms-is (omega arith, added_skip _ _ _ _ _ _ _ c.requires.1 c.requires.3 (omega arith) l.invariant.1 (even_bit _ _ w.if-forms-guess-eq1.false))
     ]

@@ -1,13 +1,7 @@
 -- `forms::replacing::add_side` meets its contract: the first q forms are done. Assumes nothing.
-use mathlib.Core.Path.{◌≡◌}
-use mathlib.Core.Logic.{⊎_elim}
 use Prim.Native.Nat.{◌-◌, ◌≤◌}
-use native.Mathlib.Omega.{arith}
 use Rattle.binary.specs.Words.{bit}
 use Rattle.forms.specs.Changes.{Changed, adding}
-use Rattle.forms.proofs.Changing.{changed_start, added_turn, added_skip}
-use Rattle.forms.proofs.WordBits.{odd_bit, even_bit}
-use borrow.Author.Rules.{rules}
 use Rattle.forms.proofs.replacing.add_side.Given as goal
 
 abbrev pub invariant-loop-q : goal.invariant-loop-q

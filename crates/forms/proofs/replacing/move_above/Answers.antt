@@ -1,15 +1,11 @@
 -- `forms::replacing::move_above` meets its contract: the words up to word u have moved. Assumes nothing.
 -- `forms::replacing::move_above` meets its contract: the words up to word u have moved. Assumes nothing.
 use mathlib.Core.Path.{◌≡◌}
-use Prim.Native.Nat.{◌-◌, ◌≤◌}
 use native.Mathlib.Omega.{arith}
-use Rattle.forms.specs.Changes.{Changed, moved_to}
 use Rattle.forms.proofs.Changing.{moved_start, moved_next}
 use borrow.Author.Rules.{rules}
 use mathlib.Core.Path.{◌≡◌}
-use Prim.Native.Nat.{◌-◌, ◌≤◌}
 use native.Mathlib.Omega.{arith}
-use Rattle.forms.specs.Changes.{Changed, moved_to}
 use Rattle.forms.proofs.Changing.{moved_start, moved_next}
 use Rattle.forms.proofs.replacing.move_above.Goals as goal
 

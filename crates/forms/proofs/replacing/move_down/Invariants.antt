@@ -1,11 +1,6 @@
 -- `forms::replacing::move_down` meets its contract: the first q forms are done. Assumes nothing.
-use mathlib.Core.Path.{◌≡◌, refl}
 use Prim.Native.Nat.{◌-◌, ◌≤◌}
-use native.Mathlib.Omega.{arith}
-use lib.ListN.{length-set}
 use Rattle.forms.specs.Changes.{Changed, moving_down}
-use Rattle.forms.proofs.Changing.{changed_start, moved_turn}
-use borrow.Author.Rules.{rules}
 use Rattle.forms.proofs.replacing.move_down.Given as goal
 
 abbrev pub invariant-loop-q : goal.invariant-loop-q

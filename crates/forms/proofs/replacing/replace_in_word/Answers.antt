@@ -1,10 +1,6 @@
 -- `forms::replacing::replace_in_word` meets its contract: the first q forms are done. Assumes nothing.
 use mathlib.Core.Path.{◌≡◌}
-use mathlib.Core.Logic.{⊎_elim}
-use Prim.Native.Nat.{◌-◌, ◌≤◌}
 use native.Mathlib.Omega.{arith}
-use Rattle.binary.specs.Words.{bit}
-use Rattle.forms.specs.Changes.{Changed, replacing}
 use Rattle.forms.proofs.Changing.{changed_start, replaced_turn, replaced_skip}
 use borrow.Author.Rules.{rules}
 use Rattle.forms.proofs.replacing.replace_in_word.Goals as goal
@@ -21,6 +17,6 @@ loop-q-preserved c =
     let l = c.loop-q in
     let e = l.invariant.1.long in
     elim c.if-word-k-ne0.branch [
-        then-word-k-ne0 w ↦ rw w.forms-is (omega arith, replaced_turn _ _ _ _ _ _ c.requires.1 (omega arith) l.invariant.1 _ w.replaced.ensures)
+      | then-word-k-ne0 w ↦ rw w.forms-is (omega arith, replaced_turn _ _ _ _ _ _ c.requires.1 (omega arith) l.invariant.1 _ w.replaced.ensures)
       | else-word-k-ne0 w ↦ rw w.forms-is (omega arith, replaced_skip _ _ _ _ _ _ c.requires.1 (omega arith) l.invariant.1 w.if-word-k-ne0.false)
     ]

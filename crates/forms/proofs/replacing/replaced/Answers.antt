@@ -1,6 +1,5 @@
 -- `forms::replacing::replaced` meets its contract. Assumes nothing.
 use Rattle.forms.proofs.WordBits.{replaced_with, replaced_without}
-use borrow.Author.Rules.{rules}
 use Rattle.forms.proofs.replacing.replaced.Goals as goal
 
 pub returns-then-word-k-eq1 : goal.returns-then-word-k-eq1

@@ -2,7 +2,6 @@
 use lib.Pow.{pow_pos}
 use Rattle.binary.proofs.WordBits.{one_shl}
 use Rattle.forms.proofs.WordBits.{closed_up, closed_bits}
-use borrow.Author.Rules.{rules}
 use Rattle.forms.proofs.replacing.without_bit.Goals as goal
 
 pub nonzero_rem-result : goal.nonzero_rem-result

@@ -2,13 +2,10 @@
 use mathlib.Core.Path.{◌≡◌}
 use mathlib.Core.Bool.{false}
 use mathlib.Core.Logic.{⊎_elim}
-use Prim.Native.Nat.{ℕ, ◌≤◌, ◌<◌}
+use Prim.Native.Nat.{◌≤◌, ◌<◌}
 use native.Mathlib.Omega.{arith}
 use Rattle.binary.proofs.WordBits.{order}
-use Rattle.forms.specs.Words.{side_in}
-use Rattle.forms.specs.Sides.{check}
 use Rattle.forms.proofs.FormWords.{side_zero}
-use borrow.Author.Rules.{rules}
 use Rattle.forms.proofs.sides.highest_part.Goals as goal
 
 pub loop-v-init : goal.loop-v-init

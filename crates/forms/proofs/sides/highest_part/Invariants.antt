@@ -1,14 +1,9 @@
 -- `forms::sides::highest_part` meets its contract: the words above word v are 0. Assumes nothing.
 use mathlib.Core.Path.{◌≡◌}
 use mathlib.Core.Bool.{false}
-use mathlib.Core.Logic.{⊎_elim}
 use Prim.Native.Nat.{ℕ, ◌≤◌, ◌<◌}
-use native.Mathlib.Omega.{arith}
-use Rattle.binary.proofs.WordBits.{order}
 use Rattle.forms.specs.Words.{side_in}
 use Rattle.forms.specs.Sides.{check}
-use Rattle.forms.proofs.FormWords.{side_zero}
-use borrow.Author.Rules.{rules}
 use Rattle.forms.proofs.sides.highest_part.Given as goal
 
 abbrev pub invariant-loop-v : goal.invariant-loop-v

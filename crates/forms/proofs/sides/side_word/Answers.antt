@@ -1,8 +1,5 @@
 -- `forms::sides::side_word` meets its contract: the sum so far with what is left of the row makes the word. Assumes nothing.
-use Prim.Native.Nat.{◌≤◌, ◌-◌}
-use lib.ListN.{length}
-use Rattle.forms.specs.Sides.{check}
-use Rattle.forms.proofs.FormWords.{SideLeft, side_start, side_turn, side_end}
+use Rattle.forms.proofs.FormWords.{side_start, side_turn, side_end}
 use borrow.Author.Rules.{rules}
 use Rattle.forms.proofs.sides.side_word.Goals as goal
 

@@ -2,8 +2,7 @@
 use Prim.Native.Nat.{◌≤◌, ◌-◌}
 use lib.ListN.{length}
 use Rattle.forms.specs.Sides.{check}
-use Rattle.forms.proofs.FormWords.{SideLeft, side_start, side_turn, side_end}
-use borrow.Author.Rules.{rules}
+use Rattle.forms.proofs.FormWords.{SideLeft}
 use Rattle.forms.proofs.sides.side_word.Given as goal
 
 abbrev pub invariant-loop-i : goal.invariant-loop-i

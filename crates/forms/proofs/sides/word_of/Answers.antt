@@ -2,7 +2,6 @@
 use mathlib.Core.Path.{sym}
 use native.Mathlib.Omega.{arith}
 use Rattle.forms.proofs.FormWords.{word_in, word_out}
-use borrow.Author.Rules.{rules}
 use Rattle.forms.proofs.sides.word_of.Goals as goal
 
 pub returns-then-n-qubit : goal.returns-then-n-qubit

@@ -1,7 +1,6 @@
 -- `halves::decode::finish` meets its contract. Assumes nothing.
 use mathlib.Core.Path.{sym, ◌∙◌}
 use Rattle.halves.proofs.Finishing.{finish_flips, finish_none, finish_open}
-use borrow.Author.Rules.{rules}
 use Rattle.halves.proofs.decode.finish.Goals as goal
 
 pub returns-then-is_finished : goal.returns-then-is_finished

@@ -1,7 +1,6 @@
 -- `halves::decode::is_enough` meets its contract. Assumes nothing.
 use mathlib.Core.Path.{refl}
 use Rattle.halves.specs.Starts.{enough?}
-use borrow.Author.Rules.{rules}
 use Rattle.halves.proofs.decode.is_enough.Goals as goal
 
 pub returns : goal.returns

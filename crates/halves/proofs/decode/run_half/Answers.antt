@@ -4,7 +4,6 @@ use mathlib.Core.Bool.{not}
 use Rattle.turns.specs.Turns.{Working}
 use Rattle.turns.proofs.Marked.{enough_told, answers_refused}
 use Rattle.halves.proofs.HalfDecodes.{enough_out, half_runs}
-use borrow.Author.Rules.{rules}
 use Rattle.halves.proofs.decode.run_half.Goals as goal
 
 pub returns-then-not-is_enough : goal.returns-then-not-is_enough

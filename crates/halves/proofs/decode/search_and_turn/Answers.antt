@@ -3,7 +3,6 @@ use mathlib.Core.Path.{◌∙◌}
 use Rattle.scans.specs.Rows.{RowLists}
 use Rattle.turns.specs.Turns.{Working}
 use Rattle.halves.proofs.HalfRuns.{searched_over, searched_left, searched_again}
-use borrow.Author.Rules.{rules}
 use Rattle.halves.proofs.decode.search_and_turn.Goals as goal
 
 pub returns-in-Over : goal.returns-in-Over

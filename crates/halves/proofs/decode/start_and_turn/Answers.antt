@@ -3,7 +3,6 @@ use mathlib.Core.Path.{◌∙◌}
 use Rattle.scans.specs.Rows.{RowLists}
 use Rattle.turns.specs.Turns.{Working}
 use Rattle.halves.proofs.HalfRuns.{half_tried, half_searched, half_again}
-use borrow.Author.Rules.{rules}
 use Rattle.halves.proofs.decode.start_and_turn.Goals as goal
 
 pub returns-in-Over : goal.returns-in-Over

@@ -1,8 +1,5 @@
 -- `halves::fills::write_flips` meets its contract. Assumes nothing.
-use Prim.Native.Nat.{◌-◌, ◌*◌, ◌%◌, ◌≤◌}
-use lib.ListN.{get_or}
 use borrow.Author.Rules.{rules}
-use Rattle.lists.specs.Filled.{Filled}
 use Rattle.lists.proofs.Filling.{fill_none, fill_turn, fill_end}
 use Rattle.halves.proofs.fills.write_flips.Goals as goal
 

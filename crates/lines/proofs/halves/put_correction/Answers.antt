@@ -1,8 +1,6 @@
 -- `lines::halves::put_correction` meets its contract. Assumes nothing.
-use borrow.Author.Tests.{not-true, not-false}
 use mathlib.Core.Path.{sym, ◌∙◌}
 use Rattle.text.proofs.Putting.{puts_none, puts_then}
-use borrow.Author.Rules.{rules}
 use Rattle.lines.proofs.halves.put_correction.Goals as goal
 
 pub returns-then-not-is_finished : goal.returns-then-not-is_finished

@@ -1,6 +1,5 @@
 -- `lines::halves::put_counts` meets its contract. Assumes nothing.
 use Rattle.text.proofs.Putting.{puts_then}
-use borrow.Author.Rules.{rules}
 use Rattle.lines.proofs.halves.put_counts.Goals as goal
 
 pub returns : goal.returns

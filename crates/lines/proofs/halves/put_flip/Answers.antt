@@ -1,7 +1,6 @@
 -- `lines::halves::put_flip` meets its contract. Assumes nothing.
 use Rattle.text.proofs.Putting.{puts_none}
 use Rattle.lines.proofs.Flips.{flip_number}
-use borrow.Author.Rules.{rules}
 use Rattle.lines.proofs.halves.put_flip.Goals as goal
 
 pub returns-then-element-eq0 : goal.returns-then-element-eq0

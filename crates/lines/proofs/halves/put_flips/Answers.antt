@@ -3,10 +3,6 @@ use Rattle.lines.proofs.Flips.{flips_more, flips_all}
 use native.Mathlib.Omega.{arith}
 use Rattle.text.proofs.Putting.{puts_none}
 use borrow.Author.Rules.{rules}
-use mathlib.Core.Path.{◌≡◌}
-use Prim.Native.Nat.{◌-◌, ◌≤◌, min}
-use lib.ListN.{length, take}
-use Rattle.text.specs.Text.{Puts}
 use Rattle.lines.specs.Lines.{flips}
 use Rattle.lines.proofs.halves.put_flips.Goals as goal
 

@@ -1,8 +1,4 @@
 -- `lines::halves::put_flips` meets its contract. Assumes nothing.
-use Rattle.lines.proofs.Flips.{flips_more, flips_all}
-use native.Mathlib.Omega.{arith}
-use Rattle.text.proofs.Putting.{puts_none}
-use borrow.Author.Rules.{rules}
 use mathlib.Core.Path.{◌≡◌}
 use Prim.Native.Nat.{◌-◌, ◌≤◌, min}
 use lib.ListN.{length, take}

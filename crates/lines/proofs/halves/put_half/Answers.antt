@@ -1,7 +1,6 @@
 -- `lines::halves::put_half` meets its contract. Assumes nothing.
 use Rattle.lines.specs.Lines.{half_line}
 use Rattle.text.proofs.Putting.{puts_then}
-use borrow.Author.Rules.{rules}
 use Rattle.lines.proofs.halves.put_half.Goals as goal
 
 pub returns : goal.returns

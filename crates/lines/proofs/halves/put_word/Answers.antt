@@ -1,5 +1,4 @@
 -- `lines::halves::put_word` meets its contract. Assumes nothing.
-use borrow.Author.Rules.{rules}
 use Rattle.lines.proofs.halves.put_word.Goals as goal
 
 pub returns-in-Certain : goal.returns-in-Certain

@@ -1,5 +1,4 @@
 -- `rack::counts::both_counts` meets its contract. Assumes nothing.
-use borrow.Author.Rules.{rules}
 use Rattle.rack.proofs.counts.both_counts.Goals as goal
 
 pub returns : goal.returns

@@ -1,7 +1,6 @@
 -- `rack::counts::window` meets its contract. Assumes nothing.
 use mathlib.Core.Path.{◌∙◌, sym, ap}
 use Rattle.rack.specs.Counts.{plain_window}
-use borrow.Author.Rules.{rules}
 use Rattle.rack.proofs.counts.window.Goals as goal
 
 pub returns-in-Counted : goal.returns-in-Counted

@@ -1,7 +1,6 @@
 -- `reading::bytes::byte_at` meets its contract. Assumes nothing.
 use mathlib.Core.Path.{sym}
 use Prim.Native.Nat.{ℕ}
-use borrow.Author.Rules.{rules}
 use lib.ListN.{get_or-eq_default}
 use Rattle.reading.proofs.bytes.byte_at.Goals as goal
 

@@ -1,11 +1,8 @@
 -- `reading::bytes::qubits_of` meets its contract: after i turns the first i numbers are in place. Assumes nothing.
 use mathlib.Core.Path.{◌≡◌}
 use Prim.Native.Nat.{ℕ, ◌-◌, ◌≤◌}
-use native.Mathlib.Omega.{arith}
-use borrow.Author.Rules.{rules}
 use lib.ListN.{length, get_or, take}
 use Rattle.records.specs.Records.{numbers}
-use Rattle.reading.proofs.Numbers.{numbers_turn, zeros, zeros_turn, row_body}
 use Rattle.reading.proofs.bytes.qubits_of.Given as goal
 
 abbrev pub invariant-loop-i : goal.invariant-loop-i

@@ -1,6 +1,5 @@
 -- `reading::shapes::length_of` meets its contract. Assumes nothing.
 use native.Mathlib.Omega.{arith}
-use borrow.Author.Rules.{rules}
 use Rattle.reading.proofs.shapes.length_of.Goals as goal
 
 pub returns-in-Row : goal.returns-in-Row

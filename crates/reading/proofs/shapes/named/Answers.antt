@@ -2,7 +2,6 @@
 use Prim.Native.Nat.{ℕ, ◌+◌, ◌-◌, ◌≤◌}
 use native.Mathlib.Omega.{arith}
 use Rattle.records.proofs.KindBytes.{NoNumber, kind_size, kind_lost, kind_lit_z, kind_lit_x, kind_decode, kind_unread_z, kind_unread_x, kind_logical, kind_low, kind_row_x, kind_mid, kind_row_z, kind_high}
-use borrow.Author.Rules.{rules}
 use Rattle.reading.proofs.shapes.named.Goals as goal
 
 width : (b low : ℕ) → b ≤ low + 16 → b - low ≤ 16

@@ -1,7 +1,6 @@
 -- `reading::shapes::shape_of` meets its contract. Assumes nothing.
 use mathlib.Core.Path.{sym, ◌∙◌}
 use Rattle.reading.proofs.RecordBytes.{record_empty, record_unknown, record_wrong, record_right}
-use borrow.Author.Rules.{rules}
 use Rattle.reading.proofs.shapes.shape_of.Goals as goal
 
 pub returns-then-bytes-eq0 : goal.returns-then-bytes-eq0

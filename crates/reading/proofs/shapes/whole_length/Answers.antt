@@ -1,6 +1,5 @@
 -- `reading::shapes::whole_length` meets its contract. Assumes nothing.
 use mathlib.Core.Path.{sym, ap, ◌∙◌}
-use borrow.Author.Rules.{rules}
 use Rattle.records.specs.Records.{whole_length}
 use Rattle.reading.proofs.shapes.whole_length.Goals as goal
 

@@ -1,6 +1,5 @@
 -- `shots::arguments::answered` meets its contract. Assumes nothing.
 use mathlib.Core.Path.{sym}
-use borrow.Author.Rules.{rules}
 use borrow.Author.Tests.{le-leb, lt-leb}
 use Rattle.shots.proofs.arguments.answered.Goals as goal
 

@@ -1,6 +1,5 @@
 -- `shots::arguments::is_same` meets its contract. Assumes nothing.
 use lib.ListN.{length}
-use borrow.Author.Rules.{rules}
 use Prim.Native.Nat.{◌-◌, ◌≤◌}
 use mathlib.Core.Path.{◌≡◌}
 use Rattle.shots.proofs.arguments.is_same.Given as goal

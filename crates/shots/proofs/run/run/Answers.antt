@@ -1,11 +1,7 @@
 -- `shots::run::run` meets its contract. Assumes nothing.
 use Rattle.shots.proofs.Rests.{room_left}
-use Rattle.shots.proofs.Runs.{Runs, runs_none, goes_on, goes_room, runs_more, runs_ran}
+use Rattle.shots.proofs.Runs.{runs_none, goes_on, goes_room, runs_more, runs_ran}
 use Rattle.shots.specs.Run.{BlockRead}
-use Rattle.claim.specs.Calls.{passed}
-use lib.ListN.{length}
-use borrow.Author.Tests.{not-true, not-false}
-use borrow.Author.Rules.{rules}
 use native.Mathlib.Omega.{arith}
 use mathlib.Core.Bool.{false}
 use mathlib.Core.Logic.{inl, inr}

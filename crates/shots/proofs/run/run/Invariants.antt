@@ -1,15 +1,8 @@
 -- `shots::run::run` meets its contract. Assumes nothing.
-use Rattle.shots.proofs.Rests.{room_left}
-use Rattle.shots.proofs.Runs.{Runs, runs_none, goes_on, goes_room, runs_more, runs_ran}
-use Rattle.shots.specs.Run.{BlockRead}
+use Rattle.shots.proofs.Runs.{Runs}
 use Rattle.claim.specs.Calls.{passed}
 use lib.ListN.{length}
-use borrow.Author.Tests.{not-true, not-false}
-use borrow.Author.Rules.{rules}
-use native.Mathlib.Omega.{arith}
-use mathlib.Core.Bool.{false}
-use mathlib.Core.Logic.{inl, inr}
-use mathlib.Core.Path.{◌≡◌, refl, ◌∙◌}
+use mathlib.Core.Path.{◌≡◌}
 use Rattle.shots.proofs.run.run.Given as goal
 
 abbrev pub invariant-loop-refills : goal.invariant-loop-refills

@@ -3,7 +3,6 @@ use Rattle.shots.proofs.Blocks.{block_taken, whole_part}
 use Rattle.input.proofs.Moving.{error_back}
 use mathlib.Core.Path.{refl}
 use native.Mathlib.Omega.{arith}
-use borrow.Author.Rules.{rules}
 use Rattle.shots.proofs.run.take_block.Goals as goal
 
 pub shape_of-block : goal.shape_of-block

@@ -1,6 +1,5 @@
 -- `stream::take::take` meets its contract, kind by kind. Assumes nothing.
 use Rattle.stream.proofs.Taking.{at_row, at_lose, at_light, at_unread, take_unknown, take_length, take_size, take_row, take_add, take_logical, take_no_decode}
-use borrow.Author.Rules.{rules}
 use Rattle.records.specs.Records.{pauli, lost, lit, unread}
 use Rattle.stream.proofs.take.take.Goals as goal
 

@@ -5,7 +5,6 @@ use Rattle.taking.specs.Progress.{text_of}
 use lib.ListN.{length}
 use mathlib.Core.Path.{refl, ◌∙◌, ap}
 use native.Mathlib.Omega.{arith}
-use borrow.Author.Rules.{rules}
 use Rattle.taking.proofs.answering.answered.Goals as goal
 
 pub next_record-bytes-requires : goal.next_record-bytes-requires

@@ -1,7 +1,6 @@
 -- `trying::entries::is_listed` meets its contract. Assumes nothing.
 use native.Mathlib.Omega.{arith}
 use Rattle.trying.proofs.OnQubit.{unlisted, listed_told}
-use borrow.Author.Rules.{rules}
 use Rattle.trying.proofs.entries.is_listed.Goals as goal
 
 pub returns-then-ends-at : goal.returns-then-ends-at

@@ -1,7 +1,6 @@
 -- `trying::entries::lit_bit` meets its contract. Assumes nothing.
 use native.Mathlib.Omega.{arith}
 use Rattle.trying.proofs.RowNumbers.{lit_past, lit_yes, lit_no}
-use borrow.Author.Rules.{rules}
 use Rattle.trying.proofs.entries.lit_bit.Goals as goal
 
 pub returns-then-lit-at : goal.returns-then-lit-at

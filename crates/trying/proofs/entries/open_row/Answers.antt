@@ -1,7 +1,6 @@
 -- `trying::entries::open_row` meets its contract. Assumes nothing.
 use mathlib.Core.Path.{sym, ◌∙◌}
 use native.Mathlib.Omega.{arith}
-use borrow.Author.Tests.{not-true, not-false}
 use Rattle.binary.proofs.Bits.{never}
 use Rattle.trying.proofs.OpeningRows.{row_passed, row_opened}
 use borrow.Author.Rules.{rules}

@@ -1,9 +1,7 @@
 -- `trying::entries::open_rows` meets its contract: the rows before place k have the qubit. Assumes nothing.
-use Prim.Native.Nat.{◌-◌, ◌≤◌}
 use native.Mathlib.Omega.{arith}
-use lib.ListN.{length}
 use borrow.Author.Rules.{rules}
-use Rattle.trying.proofs.OpeningRows.{Opening, opening_start, opening_row, opening_end}
+use Rattle.trying.proofs.OpeningRows.{opening_start, opening_row, opening_end}
 use Rattle.trying.proofs.entries.open_rows.Goals as goal
 
 pub loop-k-init : goal.loop-k-init

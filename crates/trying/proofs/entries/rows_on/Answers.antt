@@ -2,7 +2,6 @@
 use native.Mathlib.Omega.{arith}
 use Rattle.trying.proofs.OnQubit.{listed_out}
 use Rattle.filling.proofs.KeptQubits.{rows_part}
-use borrow.Author.Rules.{rules}
 use Rattle.trying.proofs.entries.rows_on.Goals as goal
 
 pub bounds-ends-at : goal.bounds-ends-at

@@ -1,11 +1,7 @@
 -- `trying::entries::settle_rows` meets its contract: the rows before place k have the value in place of the qubit. Assumes nothing.
-use mathlib.Core.Path.{◌∙◌}
 use Prim.Native.Nat.{◌-◌, ◌≤◌}
-use native.Mathlib.Omega.{arith}
 use lib.ListN.{length}
-use borrow.Author.Tests.{not-false}
-use borrow.Author.Rules.{rules}
-use Rattle.trying.proofs.SettlingRows.{Settling, settling_start, settling_row, settling_not, settling_end}
+use Rattle.trying.proofs.SettlingRows.{Settling}
 use Rattle.trying.proofs.entries.settle_rows.Given as goal
 
 abbrev pub invariant-loop-k : goal.invariant-loop-k

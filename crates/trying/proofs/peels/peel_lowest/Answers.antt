@@ -5,7 +5,6 @@ use Rattle.scans.proofs.Scanning.{open_below_lem}
 use Rattle.turns.proofs.Stays.{stays_same}
 use Rattle.turns.specs.Turns.{Working}
 use Rattle.trying.proofs.Peeling.{peels_unknown, settled_marks, peels_none, peels_made}
-use borrow.Author.Tests.{not-false}
 use borrow.Author.Rules.{rules}
 use Rattle.trying.proofs.peels.peel_lowest.Goals as goal
 

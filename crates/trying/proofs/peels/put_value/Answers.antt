@@ -1,6 +1,5 @@
 -- `trying::peels::put_value` meets its contract. Assumes nothing.
 use Rattle.trying.proofs.Values.{value_one, value_zero}
-use borrow.Author.Rules.{rules}
 use Rattle.trying.proofs.peels.put_value.Goals as goal
 
 pub returns-then-v-eq1 : goal.returns-then-v-eq1

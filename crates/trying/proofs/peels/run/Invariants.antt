@@ -1,8 +1,5 @@
 -- `trying::peels::run` meets its contract: the half that is left to run ends as the whole one. Assumes nothing.
-use mathlib.Core.Path.{◌∙◌}
-use native.Mathlib.Omega.{arith}
-use Rattle.trying.proofs.Running.{Goes, goes_start, goes_unknown, goes_over, goes_not, goes_left, goes_on}
-use borrow.Author.Rules.{rules}
+use Rattle.trying.proofs.Running.{Goes}
 use Rattle.trying.proofs.peels.run.Given as goal
 
 abbrev pub invariant-loop-left : goal.invariant-loop-left

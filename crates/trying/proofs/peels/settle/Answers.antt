@@ -2,8 +2,6 @@
 use mathlib.Core.Path.{sym, ◌∙◌}
 use native.Mathlib.Omega.{arith}
 use Rattle.trying.proofs.SettlingQubit.{settled_not, qubit_settled}
-use borrow.Author.Tests.{not-false}
-use borrow.Author.Rules.{rules}
 use Rattle.trying.proofs.peels.settle.Goals as goal
 
 pub returns-then-not-is_listed : goal.returns-then-not-is_listed

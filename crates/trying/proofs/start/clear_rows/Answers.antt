@@ -1,6 +1,5 @@
 -- `trying::start::clear_rows` meets its contract. Assumes nothing.
 use Rattle.trying.proofs.Starting.{rows_cleared}
-use borrow.Author.Rules.{rules}
 use Rattle.trying.proofs.start.clear_rows.Goals as goal
 
 pub returns : goal.returns

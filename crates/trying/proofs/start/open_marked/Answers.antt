@@ -1,10 +1,7 @@
 -- `trying::start::open_marked` meets its contract. Assumes nothing.
-use mathlib.Core.Logic.{⊎_elim}
 use mathlib.Core.Path.{sym, ◌∙◌}
-use Prim.Native.Nat.{◌-◌, ◌≤◌}
 use native.Mathlib.Omega.{arith}
-use borrow.Author.Tests.{not-false}
-use Rattle.trying.proofs.Starting.{Reached, reached_none, reached_few, reached_open, reached_shut, reached_not, reached_all}
+use Rattle.trying.proofs.Starting.{reached_none, reached_few, reached_open, reached_shut, reached_not, reached_all}
 use borrow.Author.Rules.{rules}
 use Rattle.trying.proofs.start.open_marked.Goals as goal
 use Rattle.trying.proofs.start.open_marked.Goals.{then-marks-at-eq4+else-not-is_listed, else-marks-at-eq4}
@@ -39,7 +36,7 @@ loop-at-preserved c =
     let inside = c.loop-at-test.true in (
       search rules,
       elim c.if-marks-at-eq4.branch [
-          then-marks-at-eq4+else-not-is_listed w ↦ rw (w.work-is, w.total-is) (reached_open _ _ _ _ _ _ _ _ _ _ l.invariant.1 inside c.requires.0 w.if-marks-at-eq4.true (sym w.is_listed.ensures ∙ w.if-not-is_listed.false) _ w.rows_on.ensures _ w.open_rows.ensures)
+        | then-marks-at-eq4+else-not-is_listed w ↦ rw (w.work-is, w.total-is) (reached_open _ _ _ _ _ _ _ _ _ _ l.invariant.1 inside c.requires.0 w.if-marks-at-eq4.true (sym w.is_listed.ensures ∙ w.if-not-is_listed.false) _ w.rows_on.ensures _ w.open_rows.ensures)
         | else-marks-at-eq4 w ↦ rw (w.work-is, w.total-is) (reached_shut _ _ _ _ _ _ _ _ _ _ l.invariant.1 inside w.if-marks-at-eq4.false)
       ],
     )

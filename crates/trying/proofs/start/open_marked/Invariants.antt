@@ -1,11 +1,6 @@
 -- `trying::start::open_marked` meets its contract. Assumes nothing.
-use mathlib.Core.Logic.{⊎_elim}
-use mathlib.Core.Path.{sym, ◌∙◌}
 use Prim.Native.Nat.{◌-◌, ◌≤◌}
-use native.Mathlib.Omega.{arith}
-use borrow.Author.Tests.{not-false}
-use Rattle.trying.proofs.Starting.{Reached, reached_none, reached_few, reached_open, reached_shut, reached_not, reached_all}
-use borrow.Author.Rules.{rules}
+use Rattle.trying.proofs.Starting.{Reached}
 use Rattle.trying.proofs.start.open_marked.Given as goal
 
 abbrev pub invariant-loop-at : goal.invariant-loop-at

@@ -1,6 +1,5 @@
 -- `turns::half::report` meets its contract. Assumes nothing.
 use Rattle.turns.proofs.Marked.{report_is}
-use borrow.Author.Rules.{rules}
 use Rattle.turns.proofs.half.report.Goals as goal
 
 pub returns : goal.returns

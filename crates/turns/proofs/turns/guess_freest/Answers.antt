@@ -3,7 +3,6 @@ use native.Mathlib.Omega.{arith}
 use Rattle.scans.proofs.Scanning.{open_below_lem}
 use Rattle.guessing.proofs.Room.{named_as}
 use Rattle.turns.proofs.Moves.{choice_named, guessed_none, guessed_made}
-use borrow.Author.Rules.{rules}
 use Rattle.turns.proofs.turns.guess_freest.Goals as goal
 
 pub returns-in_default : goal.returns-in_default

@@ -3,7 +3,6 @@ use mathlib.Core.Path.{refl}
 use native.Mathlib.Omega.{arith}
 use Rattle.scans.proofs.Scanning.{open_below_lem}
 use Rattle.turns.proofs.Moves.{moved_shut, moved_peel, moved_spent, moved_guess}
-use borrow.Author.Rules.{rules}
 use Rattle.turns.proofs.turns.make_turn.Goals as goal
 
 pub returns-then-budget-live : goal.returns-then-budget-live

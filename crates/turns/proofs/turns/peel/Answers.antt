@@ -2,7 +2,6 @@
 use mathlib.Core.Path.{refl, ◌∙◌}
 use native.Mathlib.Omega.{arith}
 use Rattle.turns.proofs.Turning.{peel_turned}
-use borrow.Author.Rules.{rules}
 use Rattle.turns.proofs.turns.peel.Goals as goal
 
 pub settle-requires : goal.settle-requires

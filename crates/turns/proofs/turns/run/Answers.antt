@@ -1,8 +1,7 @@
 -- `turns::turns::run` meets its contract: the half that is left to run ends as the whole one. Assumes nothing.
-use borrow.Author.Rules.{rules}
 use mathlib.Core.Path.{◌∙◌}
 use native.Mathlib.Omega.{arith}
-use Rattle.turns.proofs.Running.{Goes, goes_start, goes_finished, goes_stopped, goes_spent, goes_failed, goes_on}
+use Rattle.turns.proofs.Running.{goes_start, goes_finished, goes_stopped, goes_spent, goes_failed, goes_on}
 use Rattle.turns.proofs.turns.run.Goals as goal
 
 pub loop-left-init : goal.loop-left-init

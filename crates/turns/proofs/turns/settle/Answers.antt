@@ -2,7 +2,6 @@
 use native.Mathlib.Omega.{arith}
 use Rattle.closing.proofs.ClosingRows.{closed_as}
 use Rattle.turns.proofs.Turning.{follows_not, follows_renewed, settled}
-use borrow.Author.Rules.{rules}
 use Rattle.turns.proofs.turns.settle.Goals as goal
 
 pub shape_of-forms-then-weighed : goal.shape_of-forms-then-weighed

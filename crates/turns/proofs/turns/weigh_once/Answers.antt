@@ -2,7 +2,6 @@
 use mathlib.Core.Path.{ap}
 use mathlib.Core.Bool.{not}
 use Rattle.turns.proofs.Moves.{once_kept, once_counted}
-use borrow.Author.Rules.{rules}
 use Rattle.turns.proofs.turns.weigh_once.Goals as goal
 
 pub returns-then-not-weighed : goal.returns-then-not-weighed

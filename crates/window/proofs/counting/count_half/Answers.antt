@@ -1,10 +1,10 @@
 -- `window::counting::count_half` meets its contract: the entries so far are counted. Assumes nothing.
 use mathlib.Core.Path.{◌≡◌, ap, ◌∙◌}
-use Prim.Native.Nat.{ℕ, ◌+◌, ◌*◌, ◌-◌, ◌≤◌}
+use Prim.Native.Nat.{ℕ, ◌+◌, ◌*◌, ◌≤◌}
 use native.Mathlib.Omega.{arith}
 use borrow.Author.Rules.{rules}
 use lib.ListN.{get_or}
-use Rattle.window.specs.Counts.{Few, counts_from}
+use Rattle.window.specs.Counts.{counts_from}
 use Rattle.window.proofs.Counts.{counts_none, few_none, few_more, few_plus, counts_next}
 use Rattle.window.proofs.counting.count_half.Goals as goal
 

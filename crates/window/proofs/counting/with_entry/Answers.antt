@@ -1,7 +1,6 @@
 -- `window::counting::with_entry` meets its contract. Assumes nothing.
 use Rattle.window.proofs.Counts.{room_for_one}
 use lib.Dec.{eqb}
-use borrow.Author.Rules.{rules}
 use Rattle.window.proofs.counting.with_entry.Goals as goal
 
 pub overflow_add-c : goal.overflow_add-c
