@@ -78,7 +78,7 @@ fn main() -> ExitCode {
 fn run(options: Options) -> Result<(), String> {
     let this = std::env::current_exe().map_err(|error| error.to_string())?;
     let eliminate = Program { path: this, arguments: vec!["eliminate".into()] };
-    let shots = Program { path: "target/bin/shots".into(), arguments: Vec::new() };
+    let shots = Program { path: "crates/shots/out/shots".into(), arguments: Vec::new() };
     let mut bench = Bench {
         seconds: options.seconds,
         rounds: options.rounds,

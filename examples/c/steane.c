@@ -1,7 +1,7 @@
 /* A thousand random losses on the Steane code: loads the code, sends the shots, tests the flips and prints a table of words, then the counts of the last 256
  * shots.
  *
- *   cc -I crates/rack/include examples/c/steane.c target/staticlib/librack.a -o steane
+ *   cc -I crates/rack/include examples/c/steane.c crates/rack/out/librack.a -o steane
  */
 #include "rack.h"
 

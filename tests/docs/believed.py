@@ -21,7 +21,7 @@ def tell(holds, what):
 # A spec imports specs of its crate and of others; a type that it declares stands in the crate's code. The kit's are not the project's.
 def imports(file):
     for line in open(f"crates/{file}"):
-        found = re.match(r"(?:pub )?use Rattle·(\w+?)(?:·specs)?\.specs\.([\w.-]+?)(?:\.\{| as |$)", line)
+        found = re.match(r"(?:pub )?use Rattle\.(\w+)\.specs\.([\w.-]+?)(?:\.\{| as |$)", line)
         if found and os.path.isdir(f"crates/{found[1]}"):
             parts = found[2].split(".")
             if parts[0] != "declared":

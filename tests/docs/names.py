@@ -17,7 +17,7 @@ import re
 
 PAGES = ["README.md"] + ["docs/%s.md" % page for page in "RECORDS PROGRAM LIBRARY LISTS BELIEVED DEFINITIONS CLAIMS DECISIONS HOUSE".split()]
 # Names of tools, of C and of the languages.
-FOREIGN = "rt cargo cc valgrind python3 memcpy memmove memset sched_yield poll nanosleep getD requires ensures switch unsafe".split()
+FOREIGN = "rt cargo cc valgrind python3 memcpy memmove memset yield_now get_or requires ensures switch unsafe".split()
 WORD = r"[^\s(){}:;,.`|]+"
 NAMES = r"(?:`[^`]*`(?:, | and )?)+"
 PLACE = r"[a-z0-9_]+(?: [A-Z]\w*|/\w+/\w+(?:\.antt)?)"
@@ -49,7 +49,7 @@ def split_names(names):
     return re.findall(r"`([^`]*)`", names)
 
 
-crates = re.findall(r"^([a-z0-9_]+):", text_of("crates.txt"), re.M)
+crates = re.findall(r"^([a-z0-9_]+)(?: [^:\n]*)?:", text_of("crates.txt"), re.M)
 
 
 # ---- What is declared
@@ -94,7 +94,8 @@ def read_code(file):
 def is_path(name, beside):
     bases = ["", "docs/", "crates/", "crates/*/", "crates/*/*/"] if "/" in name or not name.endswith(".antt") else [beside]
     pattern = re.sub(r"\b(CRATE|NAME|F)\b", "*", name)
-    return name.startswith("target/") or any(files(base + pattern) for base in bases)
+    made = re.match(r"crates/(\w+)/out\b", name)
+    return made and made[1] in crates or any(files(base + pattern) for base in bases)
 
 
 def is_field(name, field, seen=()):
@@ -115,7 +116,7 @@ def check_names(page, text):
         if found := re.fullmatch(r"(\S+ )?\.([^\s.]+)", name):
             record = (found[1] or record).strip()
             holds = is_field(record, found[2])
-        elif re.search(r"[^\w.:/?′*-]|^[\W\d]", name):
+        elif re.search(r"[^\w.:/?'*-]|^[\W\d]", name):
             continue
         elif "/" in name or re.search(r"\.(antt|rt|md|h|txt)$", name):
             holds = is_path(name, beside)
@@ -188,6 +189,11 @@ def check_once(edit):
 # ---- Crates
 
 
+# What a lib.rt hands on of a module.
+def handed_on(text, module):
+    return re.findall(r"\w+", " ".join(re.findall(rf"^pub use {module}::([^;]*);", text, re.M)))
+
+
 # What a library offers: what its lib.rt declares or hands on, and what its public modules declare.
 def public_functions(crate):
     text = text_of(f"crates/{crate}/src/lib.rt")
@@ -197,7 +203,7 @@ def public_functions(crate):
         for name in re.findall(r"^pub fn (\w+)", text_of(f"crates/{crate}/src/{module}.rt"), re.M):
             if f"pub mod {module};" in text:
                 yield f"{crate}::{module}::{name}"
-            elif f"pub use {module}::{name};" in text:
+            elif name in handed_on(text, module):
                 yield f"{crate}::{name}"
 
 
@@ -207,7 +213,7 @@ def check_crate(crate, readme, claims):
         for name in public_functions(crate):
             tell(f"`{name}`" in claims.split("## Public functions")[1], f"the public functions of docs/CLAIMS.md lack {name}")
     for file in files(f"crates/{crate}/specs/**/*.antt"):
-        taken = re.findall(r"^(?:pub )?use \S*[.·]proofs\..*", text_of(file), re.M)
+        taken = [use for use, of in re.findall(r"^((?:pub )?use Rattle\.(\w+)\.proofs\b.*)", text_of(file), re.M) if of in crates]
         tell(not taken, f"{file} stands on a proof: {'; '.join(taken)}")
 
 

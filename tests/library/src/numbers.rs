@@ -103,7 +103,7 @@ fn names(header: &Numbers) -> Judged {
     Ok(())
 }
 
-/// What a clause of the specs gives each name: `wordNumber Certain = 1`.
+/// What a clause of the specs gives each name: `word_number Certain = 1`.
 fn clauses(text: &str, function: &str, prefix: &str) -> Numbers {
     let clause = |line: &str| {
         let (name, number) = line.strip_prefix(function)?.strip_prefix(' ')?.split_once(" = ")?;
@@ -115,18 +115,18 @@ fn clauses(text: &str, function: &str, prefix: &str) -> Numbers {
 
 /// The numbers that the proved functions hand back, the least lengths that they ask for, the marks.
 fn specs(header: &Numbers) -> Judged {
-    let words = clauses(WINDOW, "wordNumber", "WORD_");
-    same("wordNumber", &part(header, "WORD_"), words)?;
-    let phases = clauses(PLAIN, "phaseNumber", "PHASE_");
-    same("phaseNumber", &part(header, "PHASE_"), phases)?;
-    let mut refusals = clauses(TABLE, "refusalNumber", "REFUSAL_");
-    refusals.extend(clauses(CANDIDATES, "candidateNumber", "REFUSAL_"));
+    let words = clauses(WINDOW, "word_number", "WORD_");
+    same("word_number", &part(header, "WORD_"), words)?;
+    let phases = clauses(PLAIN, "phase_number", "PHASE_");
+    same("phase_number", &part(header, "PHASE_"), phases)?;
+    let mut refusals = clauses(TABLE, "refusal_number", "REFUSAL_");
+    refusals.extend(clauses(CANDIDATES, "candidate_number", "REFUSAL_"));
     refusals.sort_by_key(|&(_, number)| number);
     refusals.dedup();
     same("the specs'", &part(header, "REFUSAL_"), refusals)?;
-    let short = LISTS.split("\n\n").find(|text| text.contains("\nshortLists l window work ="));
+    let short = LISTS.split("\n\n").find(|text| text.contains("\nshort_lists l window work ="));
     let short = short.expect("a definition of short lists");
-    let held = ["flat", "ends", "shot"].map(|list| format!("(length (l .{list}))"));
+    let held = ["flat", "ends", "shot"].map(|list| format!("(length l.{list})"));
     let lists = [&held[..], &["window".into(), "work".into()]].concat();
     let least = part(header, "LEAST_");
     lists.iter().zip(&least).try_for_each(|(list, (name, least))| {
