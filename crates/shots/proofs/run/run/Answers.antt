@@ -3,6 +3,7 @@ use Rattle.shots.proofs.Rests.{room_left}
 use Rattle.shots.proofs.Runs.{runs_none, goes_on, goes_room, runs_more, runs_ran}
 use Rattle.shots.specs.Run.{BlockRead}
 use native.Mathlib.Omega.{arith}
+use borrow.Author.Tests.{not-true, not-false}
 use mathlib.Core.Bool.{false}
 use mathlib.Core.Logic.{inl, inr}
 use mathlib.Core.Path.{◌≡◌, refl, ◌∙◌}
@@ -15,7 +16,7 @@ pub take_block-here-requires : goal.take_block-here-requires
 take_block-here-requires g c =
     let l = c.loop-refills in
     let f = c.refill-read in
-    let o : l.here.over ≡ false = c.if-not-here.true in
+    let o : l.here.over ≡ false = not-true _ c.if-not-here.true in
     (omega (arith, f.ensures.most l.invariant.0.held, f.auto.block), (goes_on l.invariant.0 o).1, room_left c.requires l.invariant.6 l.invariant.7)
 
 pub overflow_sub-refills : goal.overflow_sub-refills
@@ -29,7 +30,7 @@ loop-refills-preserved g c =
     let l = c.loop-refills in
     let r = c.take_block-here in
     let f = c.refill-read in
-    let o : l.here.over ≡ false = c.if-not-here.true in
+    let o : l.here.over ≡ false = not-true _ c.if-not-here.true in
     let b : BlockRead l.here l.block f.new.block f.result = record { goes = o; room = goes_room l.invariant.0 o (omega (arith, l.invariant.5, c.requires.bytes)); refills = f.ensures; same = f.auto.block } in
     (runs_more l.invariant.0 _ f.new.block _ r.result f.result b r.ensures c.loop-refills-test.true, r.auto.flat ∙ l.invariant.1, r.auto.ends ∙ l.invariant.2, r.auto.shot ∙ l.invariant.3, r.auto.window ∙ l.invariant.4, r.auto.block ∙ (f.auto.block ∙ l.invariant.5), r.auto.out ∙ l.invariant.6, r.auto.places ∙ l.invariant.7)
 
@@ -55,7 +56,7 @@ pub shape_of-places-else-not-here : goal.shape_of-places-else-not-here
 shape_of-places-else-not-here g c = c.loop-refills.invariant.7
 
 pub returns-else-not-here : goal.returns-else-not-here
-returns-else-not-here g c = runs_ran c.loop-refills.invariant.0 (inl (c.if-not-here.false))
+returns-else-not-here g c = runs_ran c.loop-refills.invariant.0 (inl (not-false _ c.if-not-here.false))
 
 pub shape_of-flat-after-loop-refills : goal.shape_of-flat-after-loop-refills
 shape_of-flat-after-loop-refills g c = c.loop-refills.invariant.1
