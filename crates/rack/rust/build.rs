@@ -1,4 +1,4 @@
-//! Links librack.a, which `rt lib` writes in crates/rack: from out/ there, or from the folder that RACK_LIBRARY_DIR names.
+//! Links librack.a, which `rt lib --cpu x86-64` writes in crates/rack: from out/ there, or from the folder that RACK_LIBRARY_DIR names.
 
 use std::env;
 use std::path::{Path, PathBuf};
@@ -11,7 +11,7 @@ fn main() {
     println!("cargo:rerun-if-env-changed=RACK_LIBRARY_DIR");
     println!("cargo:rerun-if-changed={}", archive.display());
     if !archive.exists() {
-        panic!("no {}: `rt lib` in crates/rack writes it", archive.display());
+        panic!("no {}: `rt lib --cpu x86-64` in crates/rack writes it", archive.display());
     }
     println!("cargo:rustc-link-search=native={}", folder.display());
     println!("cargo:rustc-link-lib=static=rack");
