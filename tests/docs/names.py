@@ -80,7 +80,7 @@ def read_antt(file):
 def read_code(file):
     text = re.sub(r"//.*|/\*(?s:.*?)\*/", "", text_of(file))
     field = r"(\w+)(?:\[\w+\])?[,;]" if file.endswith(".h") else r"^\s*(?:pub )?(\w+)"
-    items[file].update(re.findall(r"\b(?:fn|struct|enum|const|type|mod) (\w+)", text))
+    items[file].update(re.findall(r"\b(?:fn|struct|enum|const|type|mod|impl|impl<[^>]*>) (\w+)", text))
     for name, body in re.findall(r"\b(?:struct|enum) (\w+) \{(.*?)\n\}", text, re.S):
         members[name].update(re.findall(field, body, re.M))
         items[file].update(members[name])
@@ -194,9 +194,12 @@ def handed_on(text, module):
     return re.findall(r"\w+", " ".join(re.findall(rf"^pub use {module}::([^;]*);", text, re.M)))
 
 
-# What a library offers: what its lib.rt declares or hands on, and what its public modules declare.
+# What a library offers: what its lib.rt declares or hands on, with the methods of its types, and what its public modules declare.
 def public_functions(crate):
     text = text_of(f"crates/{crate}/src/lib.rt")
+    for name, body in re.findall(r"^impl(?:<[^>]*>)? (\w+)(?:<[^>]*>)? \{\n(.*?)^\}", text, re.S | re.M):
+        for method in re.findall(r"^    pub fn (\w+)", body, re.M):
+            yield f"{crate}::{name}::{method}"
     for name in re.findall(r'^pub (?:extern "C" )?fn (\w+)', text, re.M):
         yield f"{crate}::{name}"
     for module in re.findall(r"^(?:pub )?mod (\w+);", text, re.M):

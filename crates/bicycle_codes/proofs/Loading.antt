@@ -10,7 +10,8 @@ use borrow.Author.Tests.{lt-ltb, eq-eqb, ne_eqb}
 use Rattle.binary.specs.Meaning.{Row, All, commute?}
 use Rattle.code.specs.Tests.{Ascending}
 use Rattle.records.specs.declared.Sizes.{Sizes}
-use Rattle.records.specs.Records.{X, Z, Record, size, row}
+use Rattle.records.specs.declared.Pauli.TheVariants.{X, Z}
+use Rattle.records.specs.Records.{Record, size, row}
 use Rattle.records.specs.History.{History, loading, ready, empty_shot, loaded}
 use Rattle.records.specs.Table.{in_range, refusal}
 use Rattle.bicycle_codes.specs.Laws.{CarriedOut}

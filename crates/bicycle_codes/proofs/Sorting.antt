@@ -1,13 +1,19 @@
 -- Numbers in ascending order: the same set, and strictly ascending where no number comes twice. Assumes nothing.
-use mathlib.Core.Path.{◌≡◌, refl, ap, ◌∙◌}
+use mathlib.Core.Path.{◌≡◌, refl, sym, ap, ◌∙◌}
+use mathlib.Core.Logic.{◌⊎◌, inl, inr, ⊎_elim}
 use mathlib.Core.Bool.{Bool, true, false, ◌&&◌, ◌||◌}
 use mathlib.Core.List.{List, [], ◌∷◌, ◌++◌, map}
-use Prim.Native.Nat.{ℕ, suc, ◌+◌, ◌<◌, ◌≤◌}
+use Prim.Native.Nat.{ℕ, zero, suc, ◌+◌, ◌<◌, ◌≤◌}
 use native.Mathlib.Omega.{arith}
 use lib.Dec.{eqb, leb, ltb}
 use lib.ListN.{length}
 use borrow.Author.Tests.{leb-true, leb-false, le-leb, lt-leb, lt-ltb, eqb-false}
+use Rattle.std.specs.List.{swap}
+use Rattle.std.specs.List.Sorted.{IsPermutation, IsSorted, IsNonDecreasingBy}
+use Rattle.std.specs.Ordering.{nat_cmp}
+use Rattle.std.proofs.lemmas.List.Sorted.{IsPermutation-keeps, IsNonDecreasingBy-from_sort}
 use Rattle.binary.specs.Bits.{◌⊕◌}
+use Rattle.binary.proofs.WordBits.{order}
 use Rattle.binary.specs.Meaning.{Qubits, All, has, odd}
 use Rattle.binary.proofs.Bits.{bit, and_in, and_out, or_false, ⊕_left_comm}
 use Rattle.code.specs.Tests.{ascending_from, ascending?, Ascending, Distinct}
@@ -79,18 +85,51 @@ length_sorted (q ∷ qs) = length_insert q (sorted qs) ∙ ap suc (length_sorted
 ----------------------------------------------------------------------
 -- Three numbers
 
-module _ (x l h : ℕ) (low : l ≤ h) where
-  pub first_of_three : x ≤ l → x ∷ l ∷ h ∷ [] ≡ sorted (x ∷ l ∷ h ∷ [])
-  first_of_three i = rw (le-leb l h low, le-leb x l i)
+insert_lt : (x y : ℕ) (qs : List ℕ) → x < y → insert x (insert y qs) ≡ insert y (insert x qs)
+insert_lt x y [] h = rw (le-leb x y (omega arith), lt-leb y x h)
+insert_lt x y (p ∷ ps) h =
+    ⊎_elim
+    (λ (l : y ≤ p). rw (le-leb y p l, le-leb x y (omega arith), le-leb x p (omega arith), lt-leb y x h, le-leb y p l))
+    (λ (l : p < y). ⊎_elim
+    (λ (k : x ≤ p). rw (lt-leb y p l, le-leb x p k, lt-leb y x h, lt-leb y p l))
+    (λ (k : p < x). rw (lt-leb y p l, lt-leb x p k, lt-leb y p l) (ap (◌∷◌ p) (insert_lt x y ps h))) (upto x p)) (upto y p)
+  where
+    upto : (a b : ℕ) → (a ≤ b) ⊎ (b < a)
+    upto a b = ⊎_elim (λ (l : b < a). inr l) (λ (l : a ≤ b). inl l) (order b a)
 
-  pub second_of_three : l < x → x ≤ h → l ∷ x ∷ h ∷ [] ≡ sorted (x ∷ l ∷ h ∷ [])
-  second_of_three i j = rw (le-leb l h low, lt-leb x l i, le-leb x h j)
+-- The order in which two numbers are inserted does not matter.
+insert_swap : (x y : ℕ) (qs : List ℕ) → insert x (insert y qs) ≡ insert y (insert x qs)
+insert_swap x y qs =
+    ⊎_elim (λ (l : x < y). insert_lt x y qs l)
+    (λ (l : y ≤ x). ⊎_elim (λ (k : y < x). sym (insert_lt y x qs k)) (λ (k : x ≤ y). let e : x ≡ y = omega arith in rw e) (order y x)) (order x y)
 
-  pub third_of_three : l < x → h < x → l ∷ h ∷ x ∷ [] ≡ sorted (x ∷ l ∷ h ∷ [])
-  third_of_three i j = rw (le-leb l h low, lt-leb x l i, lt-leb x h j)
+abbrev Same : List ℕ → List ℕ → Type 0
+Same qs ps = (length ps ≡ 3) × (sorted ps ≡ sorted qs)
 
-pub exchanged : (x y z : ℕ) → z < y → sorted (x ∷ z ∷ y ∷ []) ≡ sorted (x ∷ y ∷ z ∷ [])
-exchanged x y z h = let e : insert z (y ∷ []) ≡ insert y (z ∷ []) = rw (le-leb z y (omega arith), lt-leb y z h) in ap (insert x) e
+swapped : (qs ps : List ℕ) (i j : ℕ) → i < length ps → j < length ps → Same qs ps → Same qs (swap ps i j)
+swapped qs (a ∷ b ∷ c ∷ []) zero zero h k s = s
+swapped qs (a ∷ b ∷ c ∷ []) zero (suc zero) h k s = (refl, insert_swap b a (c ∷ []) ∙ s.1)
+swapped qs (a ∷ b ∷ c ∷ []) zero (suc (suc zero)) h k s =
+    (refl, insert_swap c b (a ∷ []) ∙ ap (insert b) (insert_swap c a []) ∙ insert_swap b a (c ∷ []) ∙ s.1)
+swapped qs (a ∷ b ∷ c ∷ []) (suc zero) zero h k s = (refl, insert_swap b a (c ∷ []) ∙ s.1)
+swapped qs (a ∷ b ∷ c ∷ []) (suc zero) (suc zero) h k s = s
+swapped qs (a ∷ b ∷ c ∷ []) (suc zero) (suc (suc zero)) h k s = (refl, ap (insert a) (insert_swap c b []) ∙ s.1)
+swapped qs (a ∷ b ∷ c ∷ []) (suc (suc zero)) zero h k s =
+    (refl, insert_swap c b (a ∷ []) ∙ ap (insert b) (insert_swap c a []) ∙ insert_swap b a (c ∷ []) ∙ s.1)
+swapped qs (a ∷ b ∷ c ∷ []) (suc (suc zero)) (suc zero) h k s = (refl, ap (insert a) (insert_swap c b []) ∙ s.1)
+swapped qs (a ∷ b ∷ c ∷ []) (suc (suc zero)) (suc (suc zero)) h k s = s
+swapped qs _ _ _ h k s = absurd (omega arith)
+
+in_order : (ps : List ℕ) → length ps ≡ 3 → IsNonDecreasingBy (λ x. x) ps → ps ≡ sorted ps
+in_order (a ∷ b ∷ c ∷ []) e up = rw (le-leb b c (up 1 2 0 (omega arith) (omega arith)), le-leb a b (up 0 1 0 (omega arith) (omega arith)))
+in_order _ e up = absurd (omega arith)
+
+-- What the library's sort leaves.
+pub sorted_three : (x y z : ℕ) (ps : List ℕ) → IsPermutation (x ∷ y ∷ z ∷ []) ps → IsSorted nat_cmp ps → ps ≡ sorted (x ∷ y ∷ z ∷ [])
+sorted_three x y z ps m s =
+    let qs : List ℕ = x ∷ y ∷ z ∷ [] in
+    let same : Same qs ps = IsPermutation-keeps qs (Same qs) (refl, refl) (swapped qs) ps m in
+    in_order ps same.0 (IsNonDecreasingBy-from_sort (λ x. x) ps s) ∙ same.1
 
 all_insert : (P : ℕ → Type 0) (q : ℕ) (ps : List ℕ) → P q → All P ps → All P (insert q ps)
 all_insert P q [] h a = (h, tt)

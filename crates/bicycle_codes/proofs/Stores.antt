@@ -10,11 +10,13 @@ use lib.ListN.{length, get_or, set, length-set}
 use lib.Seq.{sets, length-sets, get_or-set_same, get_or-set_other}
 use Rattle.binary.specs.Meaning.{Row}
 use Rattle.binary.proofs.WordBits.{order}
-use Rattle.bicycle_codes.specs.Writing.{RowsPut}
+use Rattle.bicycle_codes.specs.Writing.{six_of, RowsPut}
 
-pub six_stores : (l : List ℕ) (k a b c d e f : ℕ)
-    → set (set (set (set (set (set l k a) (k + 1) b) (k + 2) c) (k + 3) d) (k + 4) e) (k + 5) f ≡ sets l k (a ∷ b ∷ c ∷ d ∷ e ∷ f ∷ [])
-six_stores l k a b c d e f = rw (add-one k, add-two k, add-three k, add-four k, add_five k)
+pub six_stores : (l : List ℕ) (k lift : ℕ) (xs ys : List ℕ) → length xs ≡ 3 → length ys ≡ 3
+    → set (set (set (set (set (set l k (get_or xs 0 0)) (k + 1) (get_or xs 1 0)) (k + 2) (get_or xs 2 0)) (k + 3) (lift + get_or ys 0 0)) (k + 4) (lift + get_or ys 1 0)) (k + 5) (lift + get_or ys 2 0)
+    ≡ sets l k (six_of lift xs ys)
+six_stores l k lift (a ∷ b ∷ c ∷ []) (d ∷ e ∷ f ∷ []) h i = rw (add-one k, add-two k, add-three k, add-four k, add_five k)
+six_stores l k lift _ _ h i = absurd (omega arith)
 
 sets_outside : (l : List ℕ) (i : ℕ) (vs : List ℕ) (k : ℕ) → (k < i) ⊎ (i + length vs ≤ k) → get_or (sets l i vs) k 0 ≡ get_or l k 0
 sets_outside l i [] k h = refl

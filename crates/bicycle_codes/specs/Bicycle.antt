@@ -8,9 +8,11 @@
 --   code_of        the code: X rows and Z rows, each kind by the number of its place
 --   flat_rows      the rows end to end, X rows first
 --   grid?, term?  the tests of refusals 13 and 14; short?: of 12
+--   BicycleAnswer  a refusal, or that the rows are written
 --   bicycle_answer the answer: refusal 13, then 14, then 12, or the rows are written
 --   Writes        the promise: the answer, and every element of the list, for every input
-use Rattle.std.specs.Prelude.{◌≡◌, Bool, ◌&&◌, ◌||◌, cond, List, [], ◌∷◌, ◌++◌, map, ℕ, zero, suc, ◌+◌, ◌*◌, ◌-◌, ◌/◌, ◌%◌, eqb, leb, ltb, length, get_or}
+use Rattle.std.specs.Prelude.{◌≡◌, Bool, ◌&&◌, ◌||◌, cond, List, [], ◌∷◌, ◌++◌, map, ℕ, zero, suc, ◌+◌, ◌*◌, ◌-◌, ◌/◌, ◌%◌, eqb, leb, ltb, length, get_or, Ok, Err}
+use Rattle.std.specs.declared.result.Result.{Result}
 use Rattle.lists.specs.Filled.{Filled}
 use Rattle.binary.specs.Meaning.{Row}
 use Rattle.records.specs.History.{Code}
@@ -19,8 +21,6 @@ use Rattle.bicycle_codes.specs.declared.Terms.{Terms}
 use Rattle.bicycle_codes.specs.declared.Bicycle.{Bicycle}
 use Rattle.bicycle_codes.specs.declared.BicycleRefusal.{BicycleRefusal}
 use Rattle.bicycle_codes.specs.declared.BicycleRefusal.TheVariants.{Grid, Short}
-use Rattle.bicycle_codes.specs.declared.BicycleAnswer.{BicycleAnswer}
-use Rattle.bicycle_codes.specs.declared.BicycleAnswer.TheVariants.{Refused, Written}
 
 ----------------------------------------------------------------------
 -- The grid
@@ -125,21 +125,24 @@ term? g = bad? g g.first || bad? g g.second
 abbrev pub short? : Bicycle → ℕ → Bool
 short? g long = ltb long (12 * places g)
 
+abbrev pub BicycleAnswer : Type 0
+BicycleAnswer = Result (Unit {0}) BicycleRefusal
+
 -- 13, then 14, then 12.
 unfoldable pub bicycle_answer : Bicycle → ℕ → BicycleAnswer
 bicycle_answer g long =
-    cond (grid? g) (Refused Grid)
-    (cond (term? g) (Refused BicycleRefusal.Term)
-    (cond (short? g long) (Refused Short)
-    Written))
+    cond (grid? g) (Err Grid)
+    (cond (term? g) (Err BicycleRefusal.Term)
+    (cond (short? g long) (Err Short)
+    (Ok tt)))
 
 ----------------------------------------------------------------------
 -- The promise
 
 -- No refusal writes a row; numbers past the rows stay.
 abbrev pub RowsIn : BicycleAnswer → Bicycle → List ℕ → List ℕ → Type 0
-RowsIn (Refused n) g old new = new ≡ old
-RowsIn Written g old new = Filled (λ k. get_or (flat_rows g) k 0) (12 * places g) old new
+RowsIn (Err n) g old new = new ≡ old
+RowsIn (Ok _) g old new = Filled (λ k. get_or (flat_rows g) k 0) (12 * places g) old new
 
 -- Of the list at entry and at exit.
 pub record Writes (g : Bicycle) (old new : List ℕ) (r : BicycleAnswer) : Type 0 where

@@ -8,7 +8,8 @@ use Rattle.std.specs.Prelude.{◌≡◌, Bool, true, false, List, [], ◌∷◌,
 use Rattle.std.proofs.Math.Option.{none}
 use Rattle.binary.specs.Meaning.{All, commute?}
 use Rattle.code.specs.Tests.{Ascending}
-use Rattle.records.specs.Records.{X, Z, Record, size, row}
+use Rattle.records.specs.declared.Pauli.TheVariants.{X, Z}
+use Rattle.records.specs.Records.{Record, size, row}
 use Rattle.records.specs.History.{History, ready, empty_shot}
 use Rattle.records.specs.Table.{refusal, takes}
 use Rattle.bicycle_codes.specs.declared.Bicycle.{Bicycle}

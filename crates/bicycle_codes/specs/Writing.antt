@@ -1,20 +1,15 @@
 -- What the functions that write the rows do.
---   three      three numbers as a list
 --   Small      sizes that are not refused
 --   shifted    three places, a place moved by three terms, ascending
 --   Shifts     they are, and lie in the grid
 --   back       terms that move a place back
 --   six_of      the six numbers of a row
 --   row_by      a row by terms for its left and its right; RowsPut: so many rows written
-use Rattle.std.specs.Prelude.{◌≡◌, ◌⊎◌, List, [], ◌∷◌, ◌++◌, map, ℕ, ◌+◌, ◌*◌, ◌-◌, ◌/◌, ◌%◌, ◌≤◌, ◌<◌, length, get_or}
+use Rattle.std.specs.Prelude.{◌≡◌, ◌⊎◌, List, ◌++◌, map, ℕ, ◌+◌, ◌*◌, ◌-◌, ◌/◌, ◌%◌, ◌≤◌, ◌<◌, length, get_or}
 use Rattle.binary.specs.Meaning.{Row, All}
 use Rattle.bicycle_codes.specs.declared.Term.{Term}
 use Rattle.bicycle_codes.specs.declared.Terms.{Terms}
-use Rattle.bicycle_codes.specs.declared.Three.{Three}
 use Rattle.bicycle_codes.specs.Bicycle.{list_of, sorted}
-
-abbrev pub three : Three → List ℕ
-three t = t.low ∷ t.mid ∷ t.high ∷ []
 
 abbrev pub Small : ℕ → ℕ → Type 0
 Small l m = (0 < l) × (0 < m) × (l * m ≤ 512)
@@ -23,9 +18,9 @@ Small l m = (0 < l) × (0 < m) × (l * m ≤ 512)
 abbrev pub shifted : ℕ → ℕ → ℕ → Terms → List ℕ
 shifted l m p t = sorted (map (λ u. (p / m + u.a) % l * m + (p % m + u.b) % m) (list_of t))
 
-pub record Shifts (l m p : ℕ) (t : Terms) (r : Three) : Type 0 where
-  pub is : three r ≡ shifted l m p t
-  pub below : All (λ q. q < l * m) (three r)
+pub record Shifts (l m p : ℕ) (t : Terms) (r : List ℕ) : Type 0 where
+  pub is : r ≡ shifted l m p t
+  pub below : All (λ q. q < l * m) r
 
 abbrev pub back_of : ℕ → ℕ → Term → Term
 back_of l m t = record { a = l - t.a; b = m - t.b }
@@ -34,8 +29,8 @@ abbrev pub back : ℕ → ℕ → Terms → Terms
 back l m t = record { p = back_of l m t.p; q = back_of l m t.q; r = back_of l m t.r }
 
 -- The right block is so much higher.
-abbrev pub six_of : ℕ → Three → Three → List ℕ
-six_of lift left right = three left ++ map (λ q. lift + q) (three right)
+abbrev pub six_of : ℕ → List ℕ → List ℕ → List ℕ
+six_of lift left right = left ++ map (λ q. lift + q) right
 
 -- A row by terms for its left and its right.
 abbrev pub row_by : ℕ → ℕ → Terms → Terms → ℕ → Row

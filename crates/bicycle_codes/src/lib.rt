@@ -3,16 +3,16 @@
 
 mod table;
 
-ghost use Rattle.std.specs.Prelude.{◌≡◌, [], ◌∷◌, ◌+◌, ◌*◌, ◌/◌, ◌%◌, ◌≤◌, ◌<◌, length};
+ghost use Rattle.std.specs.Prelude.{◌≡◌, ◌+◌, ◌*◌, ◌/◌, ◌%◌, ◌≤◌, ◌<◌, length};
 ghost use Rattle.std.proofs.lemmas.List.Edits.{sets};
 ghost use Rattle.binary.specs.Meaning.{All};
-ghost use Rattle.bicycle_codes.specs.Bicycle.{sorted, grid?, outside?, same?, bad?, bicycle_answer, Writes};
-ghost use Rattle.bicycle_codes.specs.Writing.{three, Small, Shifts, back_of, back, six_of, row_by, RowsPut};
+ghost use Rattle.bicycle_codes.specs.Bicycle.{grid?, outside?, bad?, bicycle_answer, Writes};
+ghost use Rattle.bicycle_codes.specs.Writing.{Small, Shifts, back_of, back, six_of, row_by, RowsPut};
 
 pub use table::write_72;
 
 // A term (a, b).
-#[derive(Clone, Copy)]
+#[derive(Clone, Copy, PartialEq, Eq)]
 pub struct Term {
     pub a: u16,
     pub b: u16,
@@ -43,79 +43,54 @@ pub enum BicycleRefusal {
     Short,
 }
 
-// The answer: a refusal, or that the rows were written.
-#[derive(Clone, Copy)]
-pub enum BicycleAnswer {
-    Refused(BicycleRefusal),
-    Written,
-}
-
-// Three numbers in ascending order.
-#[derive(Clone, Copy)]
-struct Three {
-    low: u16,
-    mid: u16,
-    high: u16,
-}
-
-// A number put to its place beside two that ascend.
-fn insert(x: u16, low: u16, high: u16) -> Three
-    requires { low ≤ high }
-    ensures { three result ≡ sorted (x ∷ low ∷ high ∷ []) }
+// A place of a grid of l times m moved by a term.
+fn moved(l: usize, m: usize, p: usize, t: Term) -> u16
+    requires { Small l m × (p < 512) }
+    ensures { result ≡ ((p / m + t.a) % l) * m + (p % m + t.b) % m }
 {
-    if x <= low {
-        return Three {
-            low: x,
-            mid: low,
-            high: high,
-        };
-    }
-    if x <= high {
-        return Three {
-            low: low,
-            mid: x,
-            high: high,
-        };
-    }
-    Three {
-        low: low,
-        mid: high,
-        high: x,
-    }
-}
-
-// Three numbers put in ascending order.
-fn sort(x: u16, y: u16, z: u16) -> Three
-    ensures { three result ≡ sorted (x ∷ y ∷ z ∷ []) }
-{
-    if y <= z {
-        return insert(x, y, z);
-    }
-    insert(x, z, y)
-}
-
-// A place of a grid of l times m moved by a and b.
-fn moved(l: usize, m: usize, p: usize, a: usize, b: usize) -> u16
-    requires { (0 < l) × (0 < m) × (l * m ≤ 512) × (p < 512) × (a < 65536) × (b < 65536) }
-    ensures { result ≡ ((p / m + a) % l) * m + (p % m + b) % m }
-{
-    let i = (p / m + a) % l;
-    let j = (p % m + b) % m;
+    let i = (p / m + t.a as usize) % l;
+    let j = (p % m + t.b as usize) % m;
     (i * m + j) as u16
 }
 
 // A place moved by three terms, the three places ascending.
-fn shifted(l: usize, m: usize, p: usize, t: Terms) -> Three
+fn shifted(l: usize, m: usize, p: usize, t: Terms) -> [u16; 3]
     requires { Small l m × (p < 512) }
     ensures { Shifts l m p t result }
 {
-    let one = t.p;
-    let two = t.q;
-    let last = t.r;
-    let x = moved(l, m, p, one.a as usize, one.b as usize);
-    let y = moved(l, m, p, two.a as usize, two.b as usize);
-    let z = moved(l, m, p, last.a as usize, last.b as usize);
-    sort(x, y, z)
+    let mut places = [
+        moved(l, m, p, t.p),
+        moved(l, m, p, t.q),
+        moved(l, m, p, t.r),
+    ];
+    places.sort_unstable();
+    places
+}
+
+// A row's six numbers written from an element on, those of the right block so much higher.
+fn put_row(rows: &mut [u16], at: usize, lift: u16, left: [u16; 3], right: [u16; 3])
+    requires { (at + 6 ≤ length rows.old) × (lift ≤ 512) × All (λ q. q < lift) right }
+    ensures { rows.new ≡ sets rows.old at (six_of lift left right) }
+{
+    rows[at] = left[0];
+    rows[at + 1] = left[1];
+    rows[at + 2] = left[2];
+    rows[at + 3] = lift + right[0];
+    rows[at + 4] = lift + right[1];
+    rows[at + 5] = lift + right[2];
+}
+
+// The rows of all places, one after the other from a row on, by terms for the left and the right block.
+fn put_rows(l: usize, m: usize, left: Terms, right: Terms, first: usize, rows: &mut [u16])
+    requires { Small l m × (6 * (first + l * m) ≤ length rows.old) }
+    ensures { RowsPut first (l * m) (row_by l m left right) rows.old rows.new }
+{
+    let count = l * m;
+    for p in 0..count {
+        let on_left = shifted(l, m, p, left);
+        let on_right = shifted(l, m, p, right);
+        put_row(rows, 6 * (first + p), count as u16, on_left, on_right);
+    }
 }
 
 // The term that moves a place back.
@@ -129,46 +104,15 @@ fn back_of(l: u16, m: u16, t: Term) -> Term
     }
 }
 
-// A row's six numbers written from an element on, those of the right block so much higher.
-fn put_row(rows: &mut [u16], at: usize, lift: u16, left: Three, right: Three)
-    requires { (at + 6 ≤ length rows.old) × (lift ≤ 512) × All (λ q. q < lift) (three right) }
-    ensures { rows.new ≡ sets rows.old at (six_of lift left right) }
-{
-    rows[at] = left.low;
-    rows[at + 1] = left.mid;
-    rows[at + 2] = left.high;
-    rows[at + 3] = lift + right.low;
-    rows[at + 4] = lift + right.mid;
-    rows[at + 5] = lift + right.high;
-}
-
-// The rows of all places, one after the other from a row on, by terms for the left and the right block.
-fn put_rows(l: usize, m: usize, left: Terms, right: Terms, first: usize, rows: &mut [u16])
-    requires { Small l m × (6 * (first + l * m) ≤ length rows.old) }
-    ensures { RowsPut first (l * m) (row_by l m left right) rows.old rows.new }
-{
-    let count = l * m;
-    let mut p: usize = 0;
-    while p < count {
-        let on_left = shifted(l, m, p, left);
-        let on_right = shifted(l, m, p, right);
-        put_row(rows, 6 * (first + p), count as u16, on_left, on_right);
-        p += 1;
-    }
-}
-
 // Terms that move a place back.
 fn back(l: u16, m: u16, t: Terms) -> Terms
     requires { (t.p.a ≤ l) × (t.p.b ≤ m) × (t.q.a ≤ l) × (t.q.b ≤ m) × (t.r.a ≤ l) × (t.r.b ≤ m) }
     ensures { result ≡ back l m t }
 {
-    let p = t.p;
-    let q = t.q;
-    let r = t.r;
     Terms {
-        p: back_of(l, m, p),
-        q: back_of(l, m, q),
-        r: back_of(l, m, r),
+        p: back_of(l, m, t.p),
+        q: back_of(l, m, t.q),
+        r: back_of(l, m, t.r),
     }
 }
 
@@ -193,60 +137,40 @@ fn is_outside(g: Bicycle, t: Term) -> bool
     (g.l <= t.a) | (g.m <= t.b)
 }
 
-fn is_same(t: Term, u: Term) -> bool
-    ensures { result ≡ same? t u }
-{
-    (t.a == u.a) & (t.b == u.b)
-}
-
 // Whether a term of a list lies outside the grid, or two are equal.
 fn is_bad(g: Bicycle, t: Terms) -> bool
     ensures { result ≡ bad? g t }
 {
-    let p = t.p;
-    let q = t.q;
-    let r = t.r;
-    is_outside(g, p)
-        | is_outside(g, q)
-        | is_outside(g, r)
-        | is_same(p, q)
-        | is_same(p, r)
-        | is_same(q, r)
+    let Terms { p, q, r } = t;
+    is_outside(g, p) | is_outside(g, q) | is_outside(g, r) | (p == q) | (p == r) | (q == r)
 }
 
 // The first refusal whose test passes: 13, then 14, then 12.
-fn answered(g: Bicycle, long: usize) -> BicycleAnswer
+fn tested(g: Bicycle, long: usize) -> Result<(), BicycleRefusal>
     ensures { result ≡ bicycle_answer g long }
 {
     if is_grid(g) {
-        return BicycleAnswer::Refused(BicycleRefusal::Grid);
+        return Err(BicycleRefusal::Grid);
     }
-    let first = g.first;
-    let second = g.second;
-    if is_bad(g, first) | is_bad(g, second) {
-        return BicycleAnswer::Refused(BicycleRefusal::Term);
+    if is_bad(g, g.first) | is_bad(g, g.second) {
+        return Err(BicycleRefusal::Term);
     }
     if (long as u64) < 12 * area(g.l, g.m) {
-        return BicycleAnswer::Refused(BicycleRefusal::Short);
+        return Err(BicycleRefusal::Short);
     }
-    BicycleAnswer::Written
+    Ok(())
 }
 
 // The rows of a bicycle code, X rows and then Z rows, into a list of 12 times l times m numbers.
-pub fn write(g: Bicycle, rows: &mut [u16]) -> BicycleAnswer
+pub fn write(g: Bicycle, rows: &mut [u16]) -> Result<(), BicycleRefusal>
     ensures { Writes g rows.old rows.new result }
 {
-    let answer = answered(g, rows.len());
-    let BicycleAnswer::Written = answer else {
-        return answer;
-    };
+    tested(g, rows.len())?;
     let l = g.l as usize;
     let m = g.m as usize;
-    let first = g.first;
-    let second = g.second;
-    put_rows(l, m, first, second, 0, rows);
-    let left = back(g.l, g.m, second);
-    let right = back(g.l, g.m, first);
+    put_rows(l, m, g.first, g.second, 0, rows);
+    let left = back(g.l, g.m, g.second);
+    let right = back(g.l, g.m, g.first);
     put_rows(l, m, left, right, l * m, rows);
-    answer
+    Ok(())
 }

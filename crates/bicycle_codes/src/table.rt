@@ -1,9 +1,8 @@
 // The 72-qubit code as a constant table: l and m 6, terms (3,0) (0,1) (0,2) and (0,3) (1,0) (2,0).
-ghost use Rattle.std.specs.Prelude.{◌≡◌, ◌<◌, get_or};
-ghost use Rattle.bicycle_codes.specs.Bicycle.{flat_rows, Writes};
+ghost use Rattle.bicycle_codes.specs.Bicycle.{Writes};
 ghost use Rattle.bicycle_codes.specs.Table.{code72};
 
-use crate::{BicycleAnswer, BicycleRefusal};
+use crate::BicycleRefusal;
 
 // Its rows end to end, six numbers a row: 36 X rows and 36 Z rows.
 const ROWS: [u16; 432] = [
@@ -27,25 +26,13 @@ const ROWS: [u16; 432] = [
     67, 68, 22, 28, 31, 52, 68, 69, 23, 29, 32, 53, 69, 70,
 ];
 
-// Number k of the table.
-fn number(k: usize) -> u16
-    requires { k < 432 }
-    ensures { result ≡ get_or (flat_rows code72) k 0 }
-{
-    ROWS[k]
-}
-
 // The rows of the 72-qubit code, into a list of 432 numbers: what `write` writes of its sizes and terms.
-pub fn write_72(rows: &mut [u16]) -> BicycleAnswer
+pub fn write_72(rows: &mut [u16]) -> Result<(), BicycleRefusal>
     ensures { Writes code72 rows.old rows.new result }
 {
     if rows.len() < 432 {
-        return BicycleAnswer::Refused(BicycleRefusal::Short);
+        return Err(BicycleRefusal::Short);
     }
-    let mut k: usize = 0;
-    while k < 432 {
-        rows[k] = number(k);
-        k += 1;
-    }
-    BicycleAnswer::Written
+    rows[..432].copy_from_slice(&ROWS);
+    Ok(())
 }

@@ -2,13 +2,12 @@
 use mathlib.Core.Path.{◌≡◌, refl, sym, ◌∙◌}
 use mathlib.Core.Bool.{Bool, true, false, cond, ◌||◌}
 use mathlib.Core.List.{List, [], ◌++◌}
-use Prim.Native.Nat.{ℕ, ◌+◌, ◌-◌, ◌<◌}
-use native.Mathlib.Nat.{sub-zero}
+use Prim.Native.Nat.{ℕ, ◌+◌, ◌<◌}
 use native.Mathlib.Omega.{arith}
-use lib.ListN.{length, take, drop, get_or}
+use lib.ListN.{length, drop, get_or}
 use Rattle.claim.specs.Calls.{Passed, Step}
 use Rattle.output.specs.declared.Output.{Output}
-use Rattle.output.specs.Writing.{Flush, Flushed}
+use Rattle.output.specs.Writing.{Flushed}
 use Rattle.output.proofs.Joining.{flushed_none, flushed_join}
 use Rattle.taking.specs.declared.Progress.{Progress}
 use Rattle.cutting.specs.Cutting.{next_of}
@@ -42,10 +41,6 @@ module _ (ks js : List Step) (o m r : Output) (f : Flushed o (lines_all ks) (pla
 pub sent_join : {e : Bool} {w v u : Stand} {o m r : Output} → Sent e w o v m → Sent e v m u r → Sent e w o u r
 sent_join {e} {w} {v} {u} {o} {m} {r} s t =
     record { calls = s.calls ++ t.calls; takes = takes_join s.takes t.takes; written = lines_written s.calls t.calls o m r s.written t.written }
-
--- What was put is handed on by its first bytes.
-pub parts : {o r : Output} (put noted : ℕ) (out places : List ℕ) → Flush o (take (put - 0) (drop 0 out)) (take (noted - 0) (drop 0 places)) r → Flush o (take put out) (take noted places) r
-parts put noted out places f = simp sub-zero at f
 
 -- A buffer's records.
 pub buffer_sent : (e : Bool) (p q : Progress) (o : Output) (l k : Passed) (block out places : List ℕ) (r : Block) → Filled e p l k block out places q → Emptied e q o block out places r → Sent e (stand_of p l block) o (stand r k block) r.output

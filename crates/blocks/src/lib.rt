@@ -2,13 +2,14 @@
 #![tactic(auto)]
 
 ghost use Rattle.std.specs.Prelude.{false, ◌≤◌, length};
-ghost use Rattle.claim.specs.Calls.{passed};
+ghost use Rattle.records.specs.Lent.{SamePassed};
+ghost use Rattle.taking.specs.Taking.{passed_by};
 ghost use Rattle.cutting.specs.Room.{is_full};
 ghost use Rattle.blocks.specs.Blocks.{begun, Emptied, Begins, Went, Done};
 
 use counts::Tally;
 use output::Output;
-use records::State;
+use records::{PassedLists, State};
 use std::io::Write;
 use taking::Progress;
 
@@ -37,14 +38,10 @@ fn flushed<W: Write>(
     requires { (p.put ≤ length out.now) × (p.noted ≤ length places.now) }
     ensures { Emptied ended p output block.now out.now places.now result }
 {
-    let state = p.state;
-    let tally = p.tally;
-    let put = p.put;
-    let noted = p.noted;
-    let after = output::flush(to, output, &out[0..put], &places[0..noted]);
+    let after = output::flush(to, output, &out[..p.put], &places[..p.noted]);
     Block {
-        state: state,
-        tally: tally,
+        state: p.state,
+        tally: p.tally,
         taken: p.taken,
         next: cutting::next_length(after.failed | p.over, block, p.taken, ended),
         over: p.over,
@@ -58,24 +55,19 @@ fn one_buffer<W: Write, E: Write>(
     errors: &mut E,
     b: Block,
     ended: bool,
-    flat: &mut [u16],
-    ends: &mut [u16],
-    shot: &mut [u8],
-    window: &mut [u16],
+    passed: &mut PassedLists<'_>,
     block: &[u8],
     out: &mut [u8],
     places: &mut [usize],
 ) -> Block
     requires { Begins ended b block.now (length out.old) (length places.old) }
-    ensures { Went ended b (passed flat.old ends.old shot.old window.old) (passed flat.new ends.new shot.new window.new) block.now result }
+    ensures went { Went ended b (passed_by passed.old) (passed_by passed.new) block.now result }
+    ensures same_passed { SamePassed passed.old passed.new }
 {
-    let state = b.state;
-    let tally = b.tally;
     let p = taking::take_records(
-        errors, state, tally, b.taken, ended, flat, ends, shot, window, block, out, places,
+        errors, b.state, b.tally, b.taken, ended, passed, block, out, places,
     );
-    let output = b.output;
-    flushed(to, p, output, ended, block, out, places)
+    flushed(to, p, b.output, ended, block, out, places)
 }
 
 // Takes the records of a block, and writes their lines before more is read. Nothing is taken where the output has failed or has no room
@@ -83,33 +75,29 @@ fn one_buffer<W: Write, E: Write>(
 pub fn one_block<W: Write, E: Write>(
     to: &mut W,
     errors: &mut E,
-    st: State,
+    state: State,
     tally: Tally,
     output: Output,
     ended: bool,
-    flat: &mut [u16],
-    ends: &mut [u16],
-    shot: &mut [u8],
-    window: &mut [u16],
+    passed: &mut PassedLists<'_>,
     block: &[u8],
     out: &mut [u8],
     places: &mut [usize],
 ) -> Block
-    ensures { Done ended (is_full 0 (length out.old) 0 (length places.old)) (begun st tally (passed flat.old ends.old shot.old window.old) block.now) output (passed flat.new ends.new shot.new window.new) block.now result }
+    ensures done { Done ended (is_full 0 (length out.old) 0 (length places.old)) (begun state tally (passed_by passed.old) block.now) output (passed_by passed.new) block.now result }
+    ensures same_passed { SamePassed passed.old passed.new }
 {
     let full = cutting::is_full(0, out.len(), 0, places.len());
     let mut b = Block {
-        state: st,
-        tally: tally,
+        state,
+        tally,
         taken: 0,
         next: cutting::next_length(full | output.failed, block, 0, ended),
         over: false,
-        output: output,
+        output,
     };
     while b.next > 0 {
-        b = one_buffer(
-            to, errors, b, ended, flat, ends, shot, window, block, out, places,
-        );
+        b = one_buffer(to, errors, b, ended, passed, block, out, places);
     }
     b
 }

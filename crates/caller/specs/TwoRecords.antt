@@ -14,7 +14,8 @@ use Rattle.records.specs.declared.Refusal.{Refusal}
 use Rattle.records.specs.declared.Answer.{Answer}
 use Rattle.records.specs.declared.Answer.TheVariants.{Decoded}
 use Rattle.records.specs.declared.Reply.{Reply}
-use Rattle.records.specs.Records.{Pauli, Record, report, record_of}
+use Rattle.records.specs.declared.Pauli.{Pauli}
+use Rattle.records.specs.Records.{Record, report, record_of}
 use Rattle.records.specs.History.{Code, Shot, History, empty, ready, half}
 use Rattle.records.specs.Table.{refusal, afterwards}
 use Rattle.records.specs.Lists.{Six, Lent, short_lists, short_six}

@@ -1,5 +1,6 @@
 -- A candidate by words: the parity of a form's bits in a mask is the form's value, and the answers to the tests. Assumes nothing.
 use Rattle.binary.specs.Bits.{◌⊕◌}
+use Rattle.std.specs.Prelude.{Result, Ok, Err}
 use mathlib.Core.Path.{◌≡◌, refl, sym, ap, ap₂, ◌∙◌}
 use mathlib.Core.Bool.{Bool, true, false, not, ◌&&◌, ◌||◌}
 use mathlib.Core.Option.{Option, none, some}
@@ -7,7 +8,7 @@ use mathlib.Core.List.{List}
 use Prim.Native.Nat.{ℕ, zero, suc, ◌+◌, ◌*◌, ◌/◌, ◌%◌, ◌^◌, ◌≤◌, ◌<◌}
 use native.Mathlib.Nat.{pow-succ', lt_of_le_of_lt, lt_of_lt_of_le}
 use native.Mathlib.Omega.{arith}
-use borrow.Author.Tests.{lt-ltb, le-ltb, le-leb, ltb-false, leb-false}
+use borrow.Author.Tests.{le-leb, ltb-false, leb-false}
 use lib.Bits.{bit_and, and_le_r}
 use lib.Count.{ones}
 use lib.Dec.{eqb, leb, ltb}
@@ -15,7 +16,7 @@ use lib.ListN.{length, get_or}
 use lib.Pow.{pow_mono}
 use Rattle.binary.specs.Words.{bit}
 use Rattle.binary.proofs.Bits.{bit as cases, never, &&_true, or_false}
-use Rattle.binary.proofs.WordBits.{bit-bit_and, one_shl}
+use Rattle.binary.proofs.WordBits.{bit-bit_and}
 use Rattle.binary.proofs.NumberBits.{bit_next, odd_first, odd_next, ones_odd, ones_none}
 use Rattle.lists.specs.Filled.{Filled}
 use Rattle.machine.specs.Words.{finished?}
@@ -26,8 +27,6 @@ use Rattle.candidates_meaning.specs.Candidates.{candidate}
 use Rattle.machine.proofs.Values.{dot_same}
 use Rattle.machine.proofs.FormWords.{form_first, rest_digit}
 use Rattle.scans.specs.Scans.{count_marks}
-use Rattle.candidates_meaning.specs.declared.CandidateAnswer.{CandidateAnswer}
-use Rattle.candidates_meaning.specs.declared.CandidateAnswer.TheVariants.{Refused, Given}
 use Rattle.candidates_meaning.specs.declared.CandidateRefusal.{CandidateRefusal}
 use Rattle.records.specs.Lowest.{lowest}
 use Rattle.candidates_meaning.specs.Asking.{Asked, short?, unfinished?, many?, candidate_tests, candidate_refusal, candidate_answer, CandidateIn, Gives}
@@ -66,17 +65,11 @@ mask_value live c forms q few l =
 ----------------------------------------------------------------------
 -- The tests
 
-pub live_many : (live number : ℕ) → 8 < live → true ≡ (ltb 8 live || leb (2 ^ live) number)
-live_many live number l = rw (lt-ltb 8 live l)
-
-pub number_many : (live number : ℕ) → live ≤ 8 → leb (1 * 2 ^ live % 2 ^ 64) number ≡ (ltb 8 live || leb (2 ^ live) number)
-number_many live number l = rw (le-ltb 8 live l, one_shl live (omega arith))
-
 -- The answer to three tests.
-abbrev told : Bool → Bool → Bool → CandidateAnswer
+abbrev told : Bool → Bool → Bool → Result (Unit {0}) CandidateRefusal
 told short unfinished many = candidate_answer (lowest (candidate_tests short unfinished many))
 
-given_tests : (short unfinished many : Bool) → told short unfinished many ≡ Given → (short ≡ false) × (unfinished ≡ false) × (many ≡ false)
+given_tests : (short unfinished many : Bool) → told short unfinished many ≡ Ok tt → (short ≡ false) × (unfinished ≡ false) × (many ≡ false)
 given_tests true unfinished many e = let z : ◌≡◌ {A = Bool} true false = cc in never refl z
 given_tests false true many e = let z : ◌≡◌ {A = Bool} true false = cc in never refl z
 given_tests false false true e = let z : ◌≡◌ {A = Bool} true false = cc in never refl z
@@ -86,7 +79,7 @@ given_tests false false false e = (refl, refl, refl)
 -- The call
 
 -- What the code's tests and their answer are. Marks that are too short are not counted: then a list is short.
-pub record Tested (a : Asked) (long : ℕ) (r : CandidateAnswer) : Type 0 where
+pub record Tested (a : Asked) (long : ℕ) (r : Result (Unit {0}) CandidateRefusal) : Type 0 where
   pub short : Bool
   pub unfinished : Bool
   pub many : Bool
@@ -116,7 +109,7 @@ module _ (a : Asked) (long : ℕ) (e : short? a long ≡ false) where
   forms_long : 4 * a.n ≤ length a.forms
   forms_long = ltb-false (length a.forms) (4 * a.n) both.1
 
-module _ {a : Asked} {long : ℕ} {r : CandidateAnswer} (t : Tested a long r) where
+module _ {a : Asked} {long : ℕ} {r : Result (Unit {0}) CandidateRefusal} (t : Tested a long r) where
   same_test : short? a long ≡ false → t.unfinished ≡ unfinished? a
   same_test e = t.counted ∙ rw (le-leb a.n (length a.marks) (marks_long a long e))
 
@@ -128,7 +121,7 @@ module _ {a : Asked} {long : ℕ} {r : CandidateAnswer} (t : Tested a long r) wh
   same_answer : r ≡ candidate_answer (candidate_refusal a long)
   same_answer = t.answer ∙ ap₂ (λ (s m : Bool). told s t.unfinished m) t.is_short t.is_many ∙ ap candidate_answer same_refusal
 
-  pub given_room : r ≡ Given → Room a long
+  pub given_room : r ≡ Ok tt → Room a long
   given_room e =
       let u = given_tests t.short t.unfinished t.many (sym t.answer ∙ e) in
       let s = sym t.is_short ∙ u.0 in
@@ -140,18 +133,18 @@ module _ {a : Asked} {long : ℕ} {r : CandidateAnswer} (t : Tested a long r) wh
         number = leb-false (2 ^ a.live) a.number m.1;
       }
 
-  pub given_number : r ≡ Given → a.number < 256
+  pub given_number : r ≡ Ok tt → a.number < 256
   given_number e = let z = given_room e in lt_of_lt_of_le z.number (pow_mono {i = a.live} {j = 8} z.live)
 
 -- A refusal writes nothing.
-pub gives_none : {a : Asked} {r : CandidateAnswer} (list : List ℕ) → Tested a (length list) r → (why : CandidateRefusal) → r ≡ Refused why → Gives a list list r
+pub gives_none : {a : Asked} {r : Result (Unit {0}) CandidateRefusal} (list : List ℕ) → Tested a (length list) r → (why : CandidateRefusal) → r ≡ Err why → Gives a list list r
 gives_none {a} {r} list t why f = record { answer = same_answer t; list = kept (candidate_refusal a (length list)) (same_answer t) }
   where
     kept : (q : Option CandidateRefusal) → r ≡ candidate_answer q → CandidateIn q a list list
     kept (some n) i = refl
     kept none i = let z : ◌≡◌ {A = Bool} true false = cc in never refl z
 
-pub gives_one : {a : Asked} {r : CandidateAnswer} (old new : List ℕ) → Tested a (length old) r → r ≡ Given → (mask : ℕ) → mask ≡ 2 * a.number + 1
+pub gives_one : {a : Asked} {r : Result (Unit {0}) CandidateRefusal} (old new : List ℕ) → Tested a (length old) r → r ≡ Ok tt → (mask : ℕ) → mask ≡ 2 * a.number + 1
     → Filled (λ q. ones (bit_and (get_or a.forms (4 * q) 0) mask) % 2) a.n old new → Gives a old new r
 gives_one {a} {r} old new t g mask m filled = record { answer = same_answer t; list = written (candidate_refusal a (length old)) (same_answer t) }
   where

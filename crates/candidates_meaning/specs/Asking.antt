@@ -3,7 +3,7 @@
 --   candidate_number  the number of a refusal
 --   candidate_tests   the refusals, each with its test; candidate_refusal: the first that applies
 --   Gives            the promise: the answer, and every element of the list, for every input
-use Rattle.std.specs.Prelude.{◌≡◌, Bool, not, ◌||◌, List, [], ◌∷◌, ℕ, ◌*◌, ◌^◌, leb, ltb, length}
+use Rattle.std.specs.Prelude.{◌≡◌, Bool, not, ◌||◌, List, [], ◌∷◌, ℕ, ◌*◌, ◌^◌, leb, ltb, length, Result, Ok, Err}
 use Rattle.std.proofs.Math.Option.{Option, none, some}
 use Rattle.lists.specs.Filled.{Filled}
 use Rattle.machine.specs.declared.Word.{Word}
@@ -13,8 +13,6 @@ use Rattle.machine.specs.Lists.{view, form_of, digit}
 use Rattle.candidates_meaning.specs.Candidates.{candidate}
 use Rattle.candidates_meaning.specs.declared.CandidateRefusal.{CandidateRefusal}
 use Rattle.candidates_meaning.specs.declared.CandidateRefusal.TheVariants.{Short, Unfinished, Many}
-use Rattle.candidates_meaning.specs.declared.CandidateAnswer.{CandidateAnswer}
-use Rattle.candidates_meaning.specs.declared.CandidateAnswer.TheVariants.{Refused, Given}
 use Rattle.records.specs.Lowest.{lowest, Numbered}
 
 pub record Asked : Type 0 where
@@ -58,9 +56,9 @@ CandidateNumberedLaw = (short unfinished many : Bool) → let ts = candidate_tes
 ----------------------------------------------------------------------
 -- The promise
 
-abbrev pub candidate_answer : Option CandidateRefusal → CandidateAnswer
-candidate_answer (some n) = Refused n
-candidate_answer none = Given
+abbrev pub candidate_answer : Option CandidateRefusal → Result (Unit {0}) CandidateRefusal
+candidate_answer (some n) = Err n
+candidate_answer none = Ok tt
 
 -- 0 or 1 for each of the n qubits; elements past n stay. A refusal writes nothing.
 abbrev pub CandidateIn : Option CandidateRefusal → Asked → List ℕ → List ℕ → Type 0
@@ -68,6 +66,6 @@ CandidateIn (some n) a old new = new ≡ old
 CandidateIn none a old new = Filled (λ q. digit (candidate a.live (form_of a.forms) a.number q)) a.n old new
 
 -- Of the list at entry and at exit, whatever marks and forms hold.
-pub record Gives (a : Asked) (old new : List ℕ) (r : CandidateAnswer) : Type 0 where
+pub record Gives (a : Asked) (old new : List ℕ) (r : Result (Unit {0}) CandidateRefusal) : Type 0 where
   pub answer : r ≡ candidate_answer (candidate_refusal a (length old))
   pub list : CandidateIn (candidate_refusal a (length old)) a old new

@@ -2,9 +2,11 @@
 --   Tall         a word that has every column with a bit in one of the planes from 4 up to e
 --   Least        the shortest column of a word
 --   ShortestOf   the shortest of the untaken columns
+--   ShortestFound  the same as an answer
 --   room?        whether a list of so many words has the planes and the untaken columns of rows of w words
---   Takes        the promise of `take_shortest`
-use Rattle.std.specs.Prelude.{◌≡◌, Bool, true, false, not, ◌&&◌, ◌⊎◌, List, ℕ, ◌+◌, ◌*◌, ◌≤◌, ◌<◌, eqb, leb, length, get_or}
+--   Takes        that column taken; column 0 and 1024 where there is none
+--   TakesFound   the promise of `take_shortest`
+use Rattle.std.specs.Prelude.{◌≡◌, Bool, true, false, not, ◌&&◌, ◌⊎◌, List, ℕ, ◌+◌, ◌*◌, ◌≤◌, ◌<◌, eqb, leb, length, get_or, Option, Some, None}
 use Rattle.binary.specs.Words.{bit}
 use Rattle.columns.specs.Planes.{planes, number}
 use Rattle.columns.specs.Columns.{untaken}
@@ -31,6 +33,11 @@ pub record ShortestOf (w : ℕ) (m : List ℕ) (column size : ℕ) : Type 0 wher
   pub lowest : (c : ℕ) → c < column → untaken m c ≡ true → size < number m c
   pub absent : 1024 ≤ size → (column ≡ 0) × (size ≡ 1024)
 
+-- None where there is none.
+abbrev pub ShortestFound : ℕ → List ℕ → Option Shortest → Type 0
+ShortestFound w m None = ShortestOf w m 0 1024
+ShortestFound w m (Some r) = ShortestOf w m r.column r.rows × (r.rows < 1024)
+
 unfoldable pub room? : ℕ → ℕ → Bool
 room? len w = leb w 16 && leb 10240 len
 
@@ -41,3 +48,7 @@ pub record Takes (w : ℕ) (m m' : List ℕ) (r : Shortest) : Type 0 where
   pub kept : (k : ℕ) → (k < 8448) ⊎ (8464 ≤ k) → get_or m' k 0 ≡ get_or m k 0
   pub none : r.rows ≡ 1024 → m' ≡ m
   pub refused : room? (length m) w ≡ false → (r ≡ record { column = 0; rows = 1024 }) × (m' ≡ m)
+
+abbrev pub TakesFound : ℕ → List ℕ → List ℕ → Option Shortest → Type 0
+TakesFound w m m' None = Takes w m m' (record { column = 0; rows = 1024 })
+TakesFound w m m' (Some r) = Takes w m m' r × (r.rows < 1024)

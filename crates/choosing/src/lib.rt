@@ -2,14 +2,14 @@
 #![tactic(auto)]
 
 ghost use Rattle.std.specs.Prelude.{◌≡◌, ◌+◌, ◌≤◌, ◌<◌, length};
-ghost use Rattle.choosing.specs.Choosing.{room?, Tall, Least, ShortestOf, Takes};
+ghost use Rattle.choosing.specs.Choosing.{room?, Tall, Least, ShortestFound, TakesFound};
 
-// Where the work list has the planes of the numbers, 16 words for 64 columns, and the set of untaken columns.
-const PLANES: usize = 8192;
+use columns::{PLANES, UNTAKEN};
 
-const UNTAKEN: usize = 8448;
+// More rows than any column has.
+const ANY: usize = 1024;
 
-// An untaken column, and how many rows have it: 1,024 where no column is untaken.
+// An untaken column, and how many rows have it.
 #[derive(Clone, Copy)]
 pub struct Shortest {
     pub column: usize,
@@ -22,10 +22,8 @@ fn tall(m: &[u64], at: usize) -> u64
     ensures { Tall at 10 m.now result }
 {
     let mut high: u64 = 0;
-    let mut p: usize = 4;
-    while p < 10 {
-        high = high | m[at + p];
-        p += 1;
+    for p in 4..10 {
+        high |= m[at + p];
     }
     high
 }
@@ -58,16 +56,15 @@ fn shortest_in(m: &[u64], k: usize, word: u64) -> Shortest
 }
 
 // The shortest untaken column, the lowest of equals.
-fn find_shortest(m: &[u64], w: usize) -> Shortest
+fn find_shortest(m: &[u64], w: usize) -> Option<Shortest>
     requires { (w ≤ 16) × (10240 ≤ length m.now) }
-    ensures { ShortestOf w m.now result.column result.rows }
+    ensures { ShortestFound w m.now result }
 {
     let mut column: usize = 0;
-    let mut rows: usize = 1024;
-    let mut k = 0;
-    while k < w {
+    let mut rows: usize = ANY;
+    for k in 0..w {
         if rows == 0 {
-            return Shortest { column, rows };
+            break;
         }
         let word = m[UNTAKEN + k];
         if word != 0 {
@@ -77,9 +74,8 @@ fn find_shortest(m: &[u64], w: usize) -> Shortest
                 rows = here.rows;
             }
         }
-        k += 1;
     }
-    Shortest { column, rows }
+    (rows < ANY).then_some(Shortest { column, rows })
 }
 
 // Whether the list has the untaken columns and the planes of rows of `w` words.
@@ -89,20 +85,15 @@ fn has_room(len: usize, w: usize) -> bool
     (w <= 16) & (10240 <= len)
 }
 
-// The shortest untaken column, the lowest of equals, is taken.
-pub fn take_shortest(work: &mut [u64], w: usize) -> Shortest
-    ensures { Takes w work.old work.new result }
+// The shortest untaken column, the lowest of equals, is taken; None where no column is untaken.
+pub fn take_shortest(work: &mut [u64], w: usize) -> Option<Shortest>
+    ensures { TakesFound w work.old work.new result }
 {
     if !has_room(work.len(), w) {
-        return Shortest {
-            column: 0,
-            rows: 1024,
-        };
+        return None;
     }
-    let found = find_shortest(work, w);
-    if found.rows < 1024 {
-        let at = UNTAKEN + found.column / 64;
-        work[at] = work[at] ^ (1 << (found.column % 64));
-    }
-    found
+    let found = find_shortest(work, w)?;
+    let at = UNTAKEN + found.column / 64;
+    work[at] ^= 1 << (found.column % 64);
+    Some(found)
 }

@@ -32,7 +32,9 @@ use Rattle.records.specs.declared.Refusal.{Refusal}
 use Rattle.records.specs.declared.Refusal.TheVariants.{Codeless, Spoiled, Short}
 use Rattle.records.specs.declared.Answer.{Answer}
 use Rattle.records.specs.declared.Answer.TheVariants.{Taken, Decoded}
-use Rattle.records.specs.Records.{Pauli, X, Z, lost, Record, report, encodes, record_of}
+use Rattle.records.specs.declared.Pauli.{Pauli}
+use Rattle.records.specs.declared.Pauli.TheVariants.{X, Z}
+use Rattle.records.specs.Records.{lost, Record, report, encodes, record_of}
 use Rattle.records.specs.History.{Code, Shot, History, empty, ready, half}
 use Rattle.records.specs.Lowest.{lowest, Numbered}
 use Rattle.records.specs.Table.{refusal_number, tests, refusal, NumberedLaw, afterwards}

@@ -1,4 +1,5 @@
 -- The window's list holds the last 256 reports, and what a read counts in it is a fresh count over them. Assumes nothing.
+use Rattle.std.specs.Prelude.{Result}
 use mathlib.Core.Path.{◌≡◌, refl, sym, ap, ap₂, ◌∙◌, subst}
 use mathlib.Core.Bool.{Bool, true, false}
 use mathlib.Core.Logic.{◌⊎◌, inl, inr, ⊎_elim}
@@ -15,8 +16,11 @@ use Rattle.machine.specs.declared.HalfReport.{HalfReport}
 use Rattle.records.specs.declared.Report.{Report}
 use Rattle.records.specs.declared.Answer.{Answer}
 use Rattle.records.specs.declared.Answer.TheVariants.{Refused, Taken, Complete, Decoded}
-use Rattle.window_meaning.specs.declared.WindowAnswer.{WindowAnswer}
-use Rattle.records.specs.Records.{Pauli, X, Z, Record, unknown, wrong, size, row, add, report, encodes}
+use Rattle.window_meaning.specs.declared.Counts.{Counts}
+use Rattle.window_meaning.specs.declared.WindowRefusal.{WindowRefusal}
+use Rattle.records.specs.declared.Pauli.{Pauli}
+use Rattle.records.specs.declared.Pauli.TheVariants.{X, Z}
+use Rattle.records.specs.Records.{Record, unknown, wrong, size, row, add, report, encodes}
 use Rattle.records.specs.Window.{on_reports, one_more, place_of, kept_of, Entry, entry_of, entry_at, offset, Entered}
 use Rattle.window_meaning.specs.Read.{counted, sum_below, counts_at, window_answer}
 use Rattle.records.proofs.Window.{kept_few, kept_many}
@@ -228,6 +232,6 @@ module _ (rs : List Report) (m : ℕ) (window : List ℕ) (v : KeptIn rs m windo
   counts_fresh b t = counted (λ f. sum_fresh rs m window v b f t)
 
   -- long: the list at the start, as long as this one.
-  pub read_fresh : (a : WindowAnswer) → a ≡ window_answer m window → (long : List ℕ) → length long ≡ length window → ReadOf long rs a
+  pub read_fresh : (a : Result Counts WindowRefusal) → a ≡ window_answer m window → (long : List ℕ) → length long ≡ length window → ReadOf long rs a
   unfolding window_answer
   read_fresh a e long s = e ∙ rw (s, counts_fresh X, counts_fresh Z)

@@ -6,11 +6,12 @@
 --   Run     calls that each keep their promise and begin with state and lists as the last one left them
 --   makes   the code and shot that a call makes, told from its bytes and from whether a lent list was short; past: those that calls make
 --   Place   a call in a run from a fresh start, and where it stands
-use Rattle.std.specs.Prelude.{◌≡◌, List, [], ◌∷◌, ◌++◌, ℕ}
+use Rattle.std.specs.Prelude.{◌≡◌, List, [], ◌∷◌, ◌++◌, ℕ, Result}
 use Rattle.records.specs.declared.Phase.TheVariants.{Empty}
 use Rattle.records.specs.declared.State.{State}
 use Rattle.records.specs.declared.Reply.{Reply}
-use Rattle.window_meaning.specs.declared.WindowAnswer.{WindowAnswer}
+use Rattle.window_meaning.specs.declared.Counts.{Counts}
+use Rattle.window_meaning.specs.declared.WindowRefusal.{WindowRefusal}
 use Rattle.records.specs.Records.{record_of}
 use Rattle.records.specs.History.{History, empty}
 use Rattle.records.specs.Table.{afterwards}
@@ -46,7 +47,7 @@ lent l k = record { lists = l.lists; window = l.window; work = k.work; six = k.s
 -- look: a read of the window, with its answer.
 pub data Call : Type 0 where
   step : Step → Call
-  look : WindowAnswer → Call
+  look : Result Counts WindowRefusal → Call
 
 abbrev pub Keeps : State → Passed → Call → Type 0
 Keeps st l (step k) = Promise st k.bytes (lent l k) k.left k.reply

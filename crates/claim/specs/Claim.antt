@@ -3,7 +3,7 @@
 --   HalfRight  demands 2 and 3, of one half that a decode reports
 --   Claim      every call in every run from a fresh start is so, any two reported decodes of one code and shot agree as demand 3 says, a kind 8 that
 --              agrees is as if it had not come, the candidates of a finished half show each class once, and a read of the window counts the last 256 reports
-use Rattle.std.specs.Prelude.{◌≡◌, true, false, ◌⊎◌, [], ◌++◌, ℕ, ◌≤◌}
+use Rattle.std.specs.Prelude.{◌≡◌, true, false, ◌⊎◌, [], ◌++◌, ℕ, ◌≤◌, Result}
 use Rattle.machine.specs.declared.Word.TheVariants.{None}
 use Rattle.machine.specs.Words.{finished?}
 use Rattle.machine.specs.Machine.{Half, is_open}
@@ -13,9 +13,12 @@ use Rattle.machine.specs.Unread.{before}
 use Rattle.machine.specs.OneWord.{OneWord}
 use Rattle.machine.specs.Demands.{Verdict, Counted, Emptied, Fillings, Classes, Reach}
 use Rattle.records.specs.declared.Report.{Report}
-use Rattle.window_meaning.specs.declared.WindowAnswer.{WindowAnswer}
+use Rattle.window_meaning.specs.declared.Counts.{Counts}
+use Rattle.window_meaning.specs.declared.WindowRefusal.{WindowRefusal}
 use Rattle.records.specs.declared.Answer.TheVariants.{Taken, Decoded}
-use Rattle.records.specs.Records.{Pauli, X, Z, report, encodes, record_of}
+use Rattle.records.specs.declared.Pauli.{Pauli}
+use Rattle.records.specs.declared.Pauli.TheVariants.{X, Z}
+use Rattle.records.specs.Records.{report, encodes, record_of}
 use Rattle.records.specs.History.{Code, Shot, History, ready, half}
 use Rattle.records.specs.Lowest.{Numbered}
 use Rattle.records.specs.Table.{refusal_number}
@@ -107,5 +110,5 @@ pub record Claim : Type 0 where
       → KeptIn (reports_by (reports_of [] p.before) k) (state_left (state_after p.state p.before) k).reports (lists_left (begins p.lists p.before) k).window
   -- The answer to a read equals a fresh count over the last 256 reports since the last accepted kind 1, or over all of these if there were fewer; with the
   -- list short it is refused with 12. The calls without the read are a run too.
-  pub window : (a : WindowAnswer) (p : Place (look a))
+  pub window : (a : Result Counts WindowRefusal) (p : Place (look a))
       → ReadOf p.lists.window (reports_of [] p.before) a × Run p.state p.lists (p.before ++ p.after)

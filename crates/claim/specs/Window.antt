@@ -5,15 +5,16 @@
 --   fresh_count  a fresh count over reports
 --   KeptIn      the number in the state and the window's list are those of these reports
 --   ReadOf      the answer to a read
-use Rattle.std.specs.Prelude.{◌≡◌, cond, List, [], ◌∷◌, ◌++◌, ℕ, ◌+◌, ◌-◌, ◌≤◌, ◌<◌, ltb, length, get_or, drop}
+use Rattle.std.specs.Prelude.{◌≡◌, cond, List, [], ◌∷◌, ◌++◌, ℕ, ◌+◌, ◌-◌, ◌≤◌, ◌<◌, ltb, length, get_or, drop, Result, Ok, Err}
 use Rattle.machine.specs.declared.HalfReport.{HalfReport}
 use Rattle.records.specs.declared.Report.{Report}
 use Rattle.window_meaning.specs.declared.HalfCounts.{HalfCounts}
 use Rattle.window_meaning.specs.declared.Counts.{Counts}
+use Rattle.window_meaning.specs.declared.WindowRefusal.{WindowRefusal}
 use Rattle.window_meaning.specs.declared.WindowRefusal.TheVariants.{Short}
-use Rattle.window_meaning.specs.declared.WindowAnswer.{WindowAnswer}
-use Rattle.window_meaning.specs.declared.WindowAnswer.TheVariants.{Refused, Counted}
-use Rattle.records.specs.Records.{Pauli, X, Z, record_of}
+use Rattle.records.specs.declared.Pauli.{Pauli}
+use Rattle.records.specs.declared.Pauli.TheVariants.{X, Z}
+use Rattle.records.specs.Records.{record_of}
 use Rattle.records.specs.Window.{on_reports, place_of, kept_of, entry_of, entry_at}
 use Rattle.window_meaning.specs.Read.{counted}
 use Rattle.claim.specs.Calls.{Call, step, look}
@@ -52,8 +53,8 @@ abbrev pub fresh_count : List Report → Counts
 fresh_count rs = record { x = count_over X rs; z = count_over Z rs }
 
 -- window: the list at the start, as long as at the read.
-abbrev pub ReadOf : List ℕ → List Report → WindowAnswer → Type 0
-ReadOf window rs a = a ≡ cond (ltb (length window) 2560) (Refused Short) (Counted (fresh_count (last 256 rs)))
+abbrev pub ReadOf : List ℕ → List Report → Result Counts WindowRefusal → Type 0
+ReadOf window rs a = a ≡ cond (ltb (length window) 2560) (Err Short) (Ok (fresh_count (last 256 rs)))
 
 ----------------------------------------------------------------------
 -- The window holds them

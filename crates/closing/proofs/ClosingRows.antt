@@ -3,6 +3,7 @@ use mathlib.Core.Path.{◌≡◌, refl, sym, ap, ◌∙◌, subst}
 use mathlib.Core.Bool.{Bool, true, false, not, ◌&&◌, cond}
 use mathlib.Core.Option.{Option, none, some}
 use mathlib.Core.List.{List, []}
+use Rattle.std.specs.Prelude.{None, Some}
 use Prim.Native.Nat.{ℕ, ◌+◌, ◌*◌, ◌-◌, ◌≤◌, ◌<◌}
 use native.Mathlib.Omega.{arith}
 use lib.Dec.{eqb, ltb, leb}
@@ -11,15 +12,13 @@ use borrow.Author.Tests.{ltb-true, leb-true, lt-ltb, le-leb}
 use Rattle.binary.specs.Meaning.{Qubits, Row, Check, has}
 use Rattle.binary.proofs.Bits.{bit, never, and_out, not_out}
 use Rattle.bitsets.specs.Bitsets.{in_set, NextIn}
-use Rattle.forms.specs.declared.Taken.{Taken}
-use Rattle.forms.specs.declared.Taken.TheVariants.{Failed, Live}
 use Rattle.machine.specs.Machine.{Forms, put, part, closed?, bind, take_if, take_up_all}
-use Rattle.forms.specs.Forms.{with_live, Topped, TakenAs}
+use Rattle.forms.specs.Forms.{with_live, Topped, Taken, TakenAs}
 use Rattle.scans.specs.Rows.{RowLists, check_in, read_in?, row_checks}
 use Rattle.scans.proofs.Checks.{from, from_all, from_none}
 use Rattle.kept.specs.Kept.{row_in, Lowered}
 use Rattle.kept.proofs.Lowering.{Lowering, Given, on_row, lowering_pass, lowering_none, on_it, number_is, rows_on_lem, lowering_row, lowering_end}
-use Rattle.closing.specs.Closing.{closed_at?, TookIf, TakenRows, ClosingRows, enough?, enough_in?, ClosedRows}
+use Rattle.closing.specs.Closing.{closed_at?, TookIf, TakenRows, ClosingRows, enough?, Enough, ClosedRows}
 use Rattle.closing.proofs.TakingRows.{taken_none, taken_some, never_live, length_empty, from_next, from_passed}
 
 none_has : (b : Bool) (row : Row) (p : ℕ) (x : Bool) → has (cond b row []) p ≡ false → (b && (has row p && x)) ≡ false
@@ -95,13 +94,13 @@ module _ (n : ℕ) (c : RowLists) (p live : ℕ) (o : Qubits) (forms₀ work₀ 
       whole : bind row_step (take_up_all test (from c (i + 1))) ≡ take_up_all test (row_checks c) (with_live n forms₀ live)
       whole = sym (from_next c test i h (with_live n forms left)) ∙ s.so
 
-      pub closing_failed : t ≡ Failed → TakenRows n c p live o forms₀ forms' work' Failed
+      pub closing_failed : t ≡ None → TakenRows n c p live o forms₀ forms' work' None
       closing_failed e =
           let z = taken_none n forms' row_step (subst (TakenAs n forms' row_step) e row_took) in
           let w : none ≡ take_up_all test (row_checks c) (with_live n forms₀ live) = sym (ap (λ (x : Option Forms). bind x (take_up_all test (from c (i + 1)))) z) ∙ whole in
-          record { taken = subst (λ (x : Option Forms). TakenAs n forms' x Failed) w refl; kept = λ k u. never_live k u }
+          record { taken = subst (λ (x : Option Forms). TakenAs n forms' x None) w refl; kept = λ k u. never_live k u }
 
-      pub closing_turn : (left' : ℕ) → t ≡ Live left' → (i' : ℕ) → NextIn work' p (i + 1) c.count i' → Closing n c p live o forms₀ i' left' forms' work'
+      pub closing_turn : (left' : ℕ) → t ≡ Some left' → (i' : ℕ) → NextIn work' p (i + 1) c.count i' → Closing n c p live o forms₀ i' left' forms' work'
       closing_turn left' e i' f =
           let z = taken_some n forms' row_step left' (subst (TakenAs n forms' row_step) e row_took) in
           let w = f.within (omega arith) in
@@ -111,11 +110,11 @@ module _ (n : ℕ) (c : RowLists) (p live : ℕ) (o : Qubits) (forms₀ work₀ 
             lowering = lowering_row n c p o work₀ small few g.given i work same s.lowering h found long work' number low;
           }) w.0 w.1 f.skipped
 
-  pub closing_end : (i left : ℕ) (forms work : List ℕ) → Closing n c p live o forms₀ i left forms work → c.count ≤ i → TakenRows n c p live o forms₀ forms work (Live left)
+  pub closing_end : (i left : ℕ) (forms work : List ℕ) → Closing n c p live o forms₀ i left forms work → c.count ≤ i → TakenRows n c p live o forms₀ forms work (Some left)
   closing_end i left forms work s h =
       let w : some (with_live n forms left) ≡ take_up_all test (row_checks c) (with_live n forms₀ live) = sym (ap (λ (cs : List Check). take_up_all test cs (with_live n forms left)) (from_none c i h)) ∙ s.so in
       record {
-        taken = subst (λ (x : Option Forms). TakenAs n forms x (Live left)) w (refl, refl, s.topped);
+        taken = subst (λ (x : Option Forms). TakenAs n forms x (Some left)) w (refl, refl, s.topped);
         kept = λ k u. lowering_end n c p o work₀ small few g.given i work s.lowering h;
       }
 
@@ -159,9 +158,9 @@ module _ (n : ℕ) (c : RowLists) (p live : ℕ) (forms₀ work₀ : List ℕ) (
         rows = λ good o e k r top. v o (record { given = record { good = good; open_p = e; kept = k; on = r }; topped = top });
       }
 
-  pub all_end : (i left : ℕ) (forms work : List ℕ) → ClosingAll n c p live forms₀ work₀ i left forms work → c.count ≤ i → ClosingRows n c p live forms₀ forms work₀ work (Live left)
+  pub all_end : (i left : ℕ) (forms work : List ℕ) → ClosingAll n c p live forms₀ work₀ i left forms work → c.count ≤ i → ClosingRows n c p live forms₀ forms work₀ work (Some left)
   all_end i left forms work a h =
-      closed_rows i left forms work a (Live left) (λ o g. closing_end n c p live o forms₀ work₀ small few g i left forms work (a.so o g) h)
+      closed_rows i left forms work a (Some left) (λ o g. closing_end n c p live o forms₀ work₀ small few g i left forms work (a.so o g) h)
 
   module _ (i left : ℕ) (forms work : List ℕ) (a : ClosingAll n c p live forms₀ work₀ i left forms work) (h : i < c.count) (long : 9216 ≤ length work₀) (room : 4 * n ≤ length forms₀)
       (work' : List ℕ) (number : ℕ) (low : Lowered i work work' number) (told : Bool) (tells : told ≡ eqb number 0) (t : Taken) (forms' : List ℕ)
@@ -180,7 +179,7 @@ module _ (n : ℕ) (c : RowLists) (p live : ℕ) (forms₀ work₀ : List ℕ) (
           so = s;
         }
 
-    pub all_failed : t ≡ Failed → ClosingRows n c p live forms₀ forms' work₀ work' Failed
+    pub all_failed : t ≡ None → ClosingRows n c p live forms₀ forms' work₀ work' None
     all_failed e =
         record {
           forms_long = took.long ∙ a.forms_long;
@@ -194,7 +193,7 @@ module _ (n : ℕ) (c : RowLists) (p live : ℕ) (forms₀ work₀ : List ℕ) (
               (rw a.forms_long room) t forms' took e;
         }
 
-    pub all_turn : (left' : ℕ) → t ≡ Live left' → (i' : ℕ) → NextIn work' p (i + 1) c.count i' → ClosingAll n c p live forms₀ work₀ i' left' forms' work'
+    pub all_turn : (left' : ℕ) → t ≡ Some left' → (i' : ℕ) → NextIn work' p (i + 1) c.count i' → ClosingAll n c p live forms₀ work₀ i' left' forms' work'
     all_turn left' e i' f =
         stays i' left' (f.within (omega arith)).1 f.found
         (λ o g. closing_turn n c p live o forms₀ work₀ small few g i left forms work a.below (a.so o g) h (a.found h) (rw a.work_long long) work' number low told tells
@@ -202,15 +201,6 @@ module _ (n : ℕ) (c : RowLists) (p live : ℕ) (forms₀ work₀ : List ℕ) (
 
 ----------------------------------------------------------------------
 -- Sizes in range and lists long enough, and the promise
-
--- What the loop asks.
-pub record Enough (n : ℕ) (c : RowLists) (p : ℕ) (work forms : List ℕ) : Type 0 where
-  pub forms_long : 4 * n ≤ length forms
-  pub small : p < 1024
-  pub few : c.count ≤ 512
-  pub work_long : 10240 ≤ length work
-  pub lit : c.first + c.count ≤ length c.lit
-  pub last : c.first + c.count ≤ 1024
 
 -- Of sizes in range and lists long enough.
 pub closed_as : (n : ℕ) (c : RowLists) (p live : ℕ) (forms forms' work work' : List ℕ) (t : Taken) → Enough n c p work forms → ClosedRows n c p live forms forms' work work' t
@@ -226,9 +216,9 @@ closed_as n c p live forms forms' work work' t f v =
       le-leb (c.first + c.count) (length c.lit) f.lit,
     ))
 
-module _ (n : ℕ) (c : RowLists) (p live : ℕ) (forms work : List ℕ) (told : Bool) (tells : told ≡ enough_in? n c p work forms) where
-  enough_told : not told ≡ false → enough_in? n c p work forms ≡ true
-  enough_told e = bit (enough_in? n c p work forms) (λ y. y) (λ y. never (ap not (tells ∙ y)) e)
+module _ (n : ℕ) (c : RowLists) (p live : ℕ) (forms work : List ℕ) (told : Bool) (tells : told ≡ enough? n c p work forms) where
+  enough_told : not told ≡ false → enough? n c p work forms ≡ true
+  enough_told e = bit (enough? n c p work forms) (λ y. y) (λ y. never (ap not (tells ∙ y)) e)
 
   pub enough_out : not told ≡ false → Enough n c p work forms
   unfolding enough?
@@ -247,7 +237,7 @@ module _ (n : ℕ) (c : RowLists) (p live : ℕ) (forms work : List ℕ) (told :
         last = leb-true _ _ f.1;
       }
 
-  pub closed_refused : not told ≡ true → (forms' work' : List ℕ) → forms' ≡ forms → work' ≡ work → ClosedRows n c p live forms forms' work work' Failed
+  pub closed_refused : not told ≡ true → (forms' work' : List ℕ) → forms' ≡ forms → work' ≡ work → ClosedRows n c p live forms forms' work work' None
   closed_refused e forms' work' i j = record { refused = λ u. (refl, i, j); closes = λ u. never u (sym tells ∙ not_out told e) }
 
   pub closed_made : not told ≡ false → (forms' work' : List ℕ) (t : Taken) → ClosingRows n c p live forms forms' work work' t → ClosedRows n c p live forms forms' work work' t

@@ -3,6 +3,7 @@ use mathlib.Core.Path.{◌≡◌, refl, sym, ap, ap₂, ◌∙◌}
 use mathlib.Core.Bool.{Bool, true, false, ◌&&◌, cond}
 use mathlib.Core.Option.{Option, none, some}
 use mathlib.Core.List.{List, [], ◌∷◌}
+use Rattle.std.specs.Prelude.{None, Some}
 use Prim.Native.Nat.{ℕ, zero, suc, ◌+◌, ◌-◌, ◌≤◌, ◌<◌}
 use native.Mathlib.Omega.{arith}
 use lib.Dec.{eqb}
@@ -13,10 +14,8 @@ use Rattle.binary.specs.Meaning.{Qubits, Check}
 use Rattle.binary.proofs.Bits.{bit, never}
 use Rattle.binary.proofs.Rows.{odd_none}
 use Rattle.code.specs.Lists.{row_at}
-use Rattle.forms.specs.declared.Taken.{Taken}
-use Rattle.forms.specs.declared.Taken.TheVariants.{Failed, Live}
 use Rattle.machine.specs.Machine.{Form, Forms, keep_if, part, empty?, closed?, take_up, bind, take_if, take_up_all, blank}
-use Rattle.forms.specs.Forms.{with_live, Topped, TakenAs, TakesUp}
+use Rattle.forms.specs.Forms.{with_live, Topped, Taken, TakenAs, TakesUp}
 use Rattle.forms.specs.Sides.{check}
 use Rattle.scans.specs.Rows.{RowLists, check_at, check_in, read_in?, checks_from, row_checks}
 use Rattle.scans.proofs.Checks.{from, from_all, from_none}
@@ -26,21 +25,21 @@ use Rattle.closing.specs.Closing.{TookIf, LitClosed}
 ----------------------------------------------------------------------
 -- The answer and the machine
 
-pub taken_none : (n : ℕ) (forms : List ℕ) (fs : Option Forms) → TakenAs n forms fs Failed → fs ≡ none
+pub taken_none : (n : ℕ) (forms : List ℕ) (fs : Option Forms) → TakenAs n forms fs None → fs ≡ none
 taken_none n forms none e = refl
-taken_none n forms (some fs) e = let z : Failed ≡ Live fs.live = e.0 in cc
+taken_none n forms (some fs) e = let z : None ≡ Some fs.live = e.0 in cc
 
-pub taken_some : (n : ℕ) (forms : List ℕ) (fs : Option Forms) (live : ℕ) → TakenAs n forms fs (Live live)
+pub taken_some : (n : ℕ) (forms : List ℕ) (fs : Option Forms) (live : ℕ) → TakenAs n forms fs (Some live)
     → (fs ≡ some (with_live n forms live)) × Topped n live forms
-taken_some n forms none live e = let z : Live live ≡ Failed = e in (cc, λ q k l. cc)
+taken_some n forms none live e = let z : Some live ≡ None = e in (cc, λ q k l. cc)
 taken_some n forms (some fs) live e =
-    let z : Live live ≡ Live fs.live = e.0 in
+    let z : Some live ≡ Some fs.live = e.0 in
     let same : live ≡ fs.live = cc in (
       ap₂ (λ (form : ℕ → Form) (m : ℕ). some (record { form = form; live = m })) (sym e.1) (sym same),
       rw same e.2,
     )
 
-pub never_live : {A : Type 0} (k : ℕ) → Failed ≡ Live k → A
+pub never_live : {A : Type 0} (k : ℕ) → None ≡ Some k → A
 never_live k e = let z : ◌≡◌ {A = Bool} true false = cc in never refl z
 
 ----------------------------------------------------------------------
@@ -51,7 +50,7 @@ module _ (n : ℕ) (flat ends lit : List ℕ) (r : ℕ) (closed : Bool) (live : 
       → TakesUp n (check (eqb (get_or lit r 0) 1) row) live t forms forms' → TookIf n closed (check_at flat ends lit r) live forms forms' t
   row_taken e row is t forms' took = record { long = took.long; rest = took.rest; taken = λ h top. rw (e, ← is) (took.taken h top) }
 
-  pub row_left : closed ≡ false → TookIf n closed (check_at flat ends lit r) live forms forms (Live live)
+  pub row_left : closed ≡ false → TookIf n closed (check_at flat ends lit r) live forms forms (Some live)
   row_left e = record { long = refl; rest = λ q h. refl; taken = λ h top. rw e (refl, refl, top) }
 
 ----------------------------------------------------------------------
@@ -165,9 +164,6 @@ module _ (lit : List ℕ) (first count : ℕ) (work : List ℕ) where
 
   pub rows_more : (i : ℕ) → i < count → PassedRows i → (get_or lit (first + i) 0 ≡ 1 → get_or work (8704 + i) 0 ≡ 0 → ⊥) → PassedRows (i + 1)
   rows_more i h s not-both flat ends = passed_more (rows flat ends) work i h (s flat ends) not-both
-
-  pub lit_refused : (first + count ≤ length lit → 9216 ≤ length work → count ≤ 512 → ⊥) → LitClosed lit first count work false
-  lit_refused f = record { taken = λ a b d. absurd (f a b d); refused = λ g. refl }
 
   module _ (room : first + count ≤ length lit) (words : 9216 ≤ length work) (few : count ≤ 512) where
     pub lit_found : (i : ℕ) → i < count → PassedRows i → get_or lit (first + i) 0 ≡ 1 → get_or work (8704 + i) 0 ≡ 0 → LitClosed lit first count work true

@@ -1,5 +1,6 @@
 -- What is read of the lists: starts, parts and ranges of rows. Assumes nothing.
 use mathlib.Core.Path.{◌≡◌, refl, sym, ap, ◌∙◌}
+use mathlib.Core.Logic.{◌⊎◌, ⊎_elim}
 use mathlib.Core.List.{List, [], ◌∷◌}
 use Prim.Native.Nat.{ℕ, zero, suc, ◌+◌, ◌-◌, ◌<◌, ◌≤◌}
 use native.Mathlib.Nat.{sub-zero, suc-sub-suc, zero-sub}
@@ -9,6 +10,11 @@ use borrow.Author.Tests.{le-leb, lt-leb}
 use lib.Dec.{leb}
 use lib.ListN.{length, get_or, take, drop}
 use lib.Seq.{take-nil}
+use Rattle.std.proofs.Common.{Bor}
+use Rattle.std.specs.List.{slice_range}
+use Rattle.std.specs.Option.{MatchOption, unwrap_or}
+use Rattle.std.specs.declared.option.Option.{Option}
+use Rattle.std.specs.declared.option.Option.TheVariants.{None, Some}
 use Rattle.binary.proofs.Bits.{bit}
 use Rattle.code.specs.Lists.{start_of, row_at, rows_between}
 
@@ -42,17 +48,24 @@ module _ (flat ends : List ℕ) (r s e : ℕ) (starts : s ≡ start_of ends r) (
   unfolding row_at
   row_within h = rw (← starts, ← stops, le-leb e (length flat) h)
 
-  pub row_part : e ≤ length flat → take (e - s) (drop s flat) ≡ row_at flat ends r
+  row_part : e ≤ length flat → take (e - s) (drop s flat) ≡ row_at flat ends r
   row_part h = part_is flat s e ∙ row_within h
 
-  pub row_before : e < s → [] ≡ row_at flat ends r
+  row_before : e < s → [] ≡ row_at flat ends r
   unfolding row_at
   row_before h =
       rw (← starts, ← stops) (bit (leb e (length flat)) (λ t. rw t (sym (part_none flat s e (omega arith)))) (λ t. rw t))
 
-  pub row_past : length flat < e → [] ≡ row_at flat ends r
+  row_past : length flat < e → [] ≡ row_at flat ends r
   unfolding row_at
   row_past h = rw (← stops, lt-leb e (length flat) h)
+
+  -- The part, if there is one.
+  pub row_got : (o : Option (Bor (List ℕ))) (none : Bor (List ℕ)) → none.now ≡ []
+      → MatchOption o ((e < s) ⊎ (length flat < e)) (λ part. (s ≤ e) × (e ≤ length flat) × (part.now ≡ slice_range flat s e) × (length part.now + s ≡ e))
+      → (unwrap_or o none).now ≡ row_at flat ends r
+  row_got None none n m = n ∙ ⊎_elim row_before row_past m
+  row_got (Some part) none n m = m.2 ∙ row_part m.1
 
 ----------------------------------------------------------------------
 -- Ranges

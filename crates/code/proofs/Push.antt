@@ -4,13 +4,14 @@ use mathlib.Core.Bool.{Bool, true, false, ◌&&◌}
 use mathlib.Core.Logic.{⊎_elim}
 use mathlib.Core.List.{List, [], ◌∷◌, ◌++◌, append_assoc}
 use Prim.Native.Nat.{ℕ, zero, suc, ◌+◌, ◌*◌, ◌<◌, ◌≤◌}
-use native.Mathlib.Nat.{eq-or-lt_of_le, le_of_suc-le-suc, le_antisymm}
-use native.Mathlib.Numerals.{add-one}
+use native.Mathlib.Nat.{eq-or-lt_of_le, le_of_suc-le-suc}
 use native.Mathlib.Omega.{arith}
 use borrow.Author.Tests.{lt-ltb, le-ltb, le-leb, lt-leb, ltb-true, leb-true}
 use lib.Dec.{leb, ltb}
 use lib.ListN.{length, get_or, take, drop, set, length-append, length-drop, length-set, get_or-append}
-use lib.Seq.{take-append-le, take-take, take_at, take-length, length-take-le, drop_at, get_or-append_seam, get_or-set_same, get_or-set_other, paste, paste-suc}
+use lib.Seq.{take-append-le, take-take, take_at, length-take-le, drop_at, get_or-append_seam, get_or-set_same, get_or-set_other}
+use borrow.Rule.Slice.PartMut.{put_mid}
+use Rattle.std.proofs.lemmas.List.{drop-drop}
 use Rattle.binary.specs.Meaning.{Row, All}
 use Rattle.binary.proofs.Bits.{&&_false, and_in, and_out}
 use Rattle.code.specs.Lists.{start_of, row_at, Held, Flat}
@@ -19,16 +20,12 @@ use Rattle.code.proofs.Lists.{row_within}
 use Rattle.code.proofs.Flat.{start_next, starts_ascend}
 
 ----------------------------------------------------------------------
--- The loop that writes
+-- The qubits written
 
-pub written_turn : (old flat row : List ℕ) (start i : ℕ) → start + length row ≤ length old → i < length row → flat ≡ paste old start row i
-    → set flat (start + i) (get_or row i 0) ≡ paste old start row (i + 1)
-written_turn old flat row start i fits h e = rw (e, add-one i) (paste-suc old start row i 0 (omega arith) h)
-
-pub written_all : (old flat row : List ℕ) (start i : ℕ) → i ≤ length row → length row ≤ i → flat ≡ paste old start row i → flat ≡ written old start row
+pub written_part : (flat part row : List ℕ) (start k : ℕ) → part ≡ row → k ≡ length row → put_mid start k flat part ≡ written flat start row
 unfolding written
-written_all old flat row start i h₁ h₂ e =
-    e ∙ ap (paste old start row) (le_antisymm h₁ h₂) ∙ ap (λ (l : List ℕ). take start old ++ l ++ drop (start + length row) old) (take-length row)
+written_part flat part row start k e n =
+    rw (e, n, drop-drop (length row) start flat) (sym (append_assoc (take start flat) row (drop (start + length row) flat)))
 
 ----------------------------------------------------------------------
 -- The ways through a push

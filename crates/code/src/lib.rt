@@ -1,9 +1,9 @@
 // The code: its rows in lent lists, end to end, and the tests of one row.
 #![tactic(auto)]
 
-ghost use Rattle.std.specs.Prelude.{◌≡◌, ◌+◌, ◌<◌, ◌≤◌, length, get_or};
+ghost use Rattle.std.specs.Prelude.{◌≡◌, ◌+◌, ◌<◌, ◌≤◌, ◌⊎◌, length, get_or, IfSome, IfNone};
 ghost use Rattle.code.specs.Lists.{start_of, row_at};
-ghost use Rattle.code.specs.Push.{written, Pushed};
+ghost use Rattle.code.specs.Push.{Pushed};
 ghost use Rattle.code.specs.Tests.{ascending?};
 
 // A qubit's number.
@@ -14,6 +14,10 @@ pub struct Qubit(pub u16);
 #[derive(Clone, Copy)]
 pub struct Row(pub u16);
 
+// A row's number within its kind, as records give it: the X rows and the Z rows both count from 0.
+#[derive(Clone, Copy)]
+pub struct KindRow(pub u16);
+
 // Rows that follow one another: the first and how many they are.
 #[derive(Clone, Copy)]
 pub struct Rows {
@@ -21,26 +25,22 @@ pub struct Rows {
     pub count: u16,
 }
 
-// A row's number within its kind, as records give it: the X rows and the Z rows both count from 0.
-#[derive(Clone, Copy)]
-pub struct KindRow(pub u16);
-
-// An element as an index, with its bound.
-fn index(x: u16) -> usize
-    ensures { (result ≡ x) × (result < 65536) }
-{
-    x as usize
+impl Rows {
+    // The number of row r among these rows, if it is one of them.
+    pub fn place_of(self, r: Row) -> Option<KindRow>
+        ensures found { IfSome result (λ i. (r.0 ≡ self.first.0 + i.0) × (i.0 < self.count)) }
+        ensures none { IfNone result ((r.0 < self.first.0) ⊎ (self.first.0 + self.count ≤ r.0)) }
+    {
+        let place = r.0.checked_sub(self.first.0)?;
+        (place < self.count).then_some(KindRow(place))
+    }
 }
 
 // Where row r ends; 0 for a row past the ends.
 fn end_of(ends: &[u16], r: Row) -> usize
     ensures { (result ≡ get_or ends.now r.0 0) × (result < 65536) }
 {
-    let at = r.0 as usize;
-    if ends.len() <= at {
-        return 0;
-    }
-    index(ends[at])
+    ends.get(r.0 as usize).map_or(0, |end| *end as usize)
 }
 
 // Where row r starts: at the end of the row before it.
@@ -53,31 +53,29 @@ fn start_of(ends: &[u16], r: Row) -> usize
     end_of(ends, Row(r.0 - 1))
 }
 
-// The part of the flat list that row r occupies.
+// The lists of the code: the qubits of the rows, end to end, and where each row ends.
+#[derive(Clone, Copy)]
+pub struct CodeLists<'a> {
+    pub flat: &'a [u16],
+    pub ends: &'a [u16],
+}
+
+impl<'a> CodeLists<'a> {
+    // The qubits of row r.
+    pub fn row(&self, r: Row) -> &'a [u16]
+        ensures { result.now ≡ row_at self.now.flat.now self.now.ends.now r.0 }
+    {
+        row_at(self.flat, self.ends, r)
+    }
+}
+
+// The same of lists that need not live as long as one another.
 pub fn row_at<'a>(flat: &'a [u16], ends: &[u16], r: Row) -> &'a [u16]
     ensures { result.now ≡ row_at flat.now ends.now r.0 }
 {
     let start = start_of(ends, r);
     let end = end_of(ends, r);
-    if end < start {
-        return &flat[0..0];
-    }
-    if flat.len() < end {
-        return &flat[0..0];
-    }
-    &flat[start..end]
-}
-
-// The qubits to the list from `start` on.
-fn write(flat: &mut [u16], start: usize, qubits: &[u16])
-    requires { start + length qubits.now ≤ length flat.old }
-    ensures { flat.new ≡ written flat.old start qubits.now }
-{
-    let mut i: usize = 0;
-    while i < qubits.len() {
-        flat[start + i] = qubits[i];
-        i += 1;
-    }
+    flat.get(start..end).unwrap_or(&[])
 }
 
 // The qubits as row r, with its end; false, and nothing written, without room.
@@ -85,18 +83,12 @@ pub fn push_row(flat: &mut [u16], ends: &mut [u16], r: Row, qubits: &[u16]) -> b
     ensures { Pushed flat.old ends.old r.0 qubits.now result flat.new ends.new }
 {
     let at = r.0 as usize;
-    if ends.len() <= at {
-        return false;
-    }
     let start = start_of(ends, r);
     let stop = start + qubits.len();
-    if flat.len() < stop {
+    if ends.len() <= at || flat.len() < stop || 65535 < stop {
         return false;
     }
-    if 65535 < stop {
-        return false;
-    }
-    write(flat, start, qubits);
+    flat[start..stop].copy_from_slice(qubits);
     ends[at] = stop as u16;
     true
 }
@@ -105,19 +97,12 @@ pub fn push_row(flat: &mut [u16], ends: &mut [u16], r: Row, qubits: &[u16]) -> b
 pub fn ascending(n: u16, qubits: &[u16]) -> bool
     ensures { result ≡ ascending? n qubits.now }
 {
-    let bound = n as usize;
-    let mut least: usize = 0;
-    let mut i: usize = 0;
-    while i < qubits.len() {
-        let q = index(qubits[i]);
-        if q < least {
-            return false;
-        }
-        if bound <= q {
+    let mut least = 0;
+    for &q in qubits {
+        if q < least || n <= q {
             return false;
         }
         least = q + 1;
-        i += 1;
     }
     true
 }

@@ -1,24 +1,31 @@
 -- The turns of the loops: what is left of a row, or of the rows, decides. Assumes nothing.
-use mathlib.Core.Path.{◌≡◌, sym, ap, ◌∙◌}
+use mathlib.Core.Path.{refl, ◌≡◌, sym, ap, ◌∙◌}
 use mathlib.Core.Bool.{Bool, true, false, not, ◌&&◌}
-use mathlib.Core.List.{List}
-use Prim.Native.Nat.{ℕ, ◌+◌, ◌<◌, ◌≤◌}
-use lib.ListN.{length, get_or, drop, drop_of_length-le}
+use mathlib.Core.List.{List, [], ◌∷◌}
+use native.Mathlib.Nat.{zero-add}
+use native.Mathlib.Omega.{arith}
+use borrow.Author.Tests.{eqb-true, eqb-false, eq-eqb, ne_eqb}
+use lib.Dec.{eqb}
+use Rattle.std.proofs.Common.{cond, count_by}
+use Rattle.std.proofs.lemmas.List.Sums.{sum_by-cons}
+use Prim.Native.Nat.{ℕ, ◌+◌, ◌%◌, ◌<◌, ◌≤◌}
 use Rattle.binary.specs.Bits.{◌⊕◌}
 use Rattle.binary.specs.Meaning.{Row, Qubits, odd}
-use Rattle.binary.proofs.Bits.{⊕_false, ⊕_assoc}
+use Rattle.binary.proofs.Bits.{bit}
 use Rattle.code.specs.Lists.{row_at, rows_between}
 use Rattle.code.proofs.Lists.{between_turn, between_none}
-use Rattle.code.proofs.Turns.{drop_turn}
 use Rattle.commuting.specs.Even.{even_for?}
 
-module _ (set : Qubits) (row : Row) (i : ℕ) (sum : Bool) (left : sum ⊕ odd set (drop i row) ≡ odd set row) where
-  pub odd_end : length row ≤ i → sum ≡ odd set row
-  odd_end h = sym (⊕_false sum) ∙ sym (ap (λ (l : Row). sum ⊕ odd set l) (drop_of_length-le row h)) ∙ left
+one_more : (n : ℕ) → eqb ((1 + n) % 2) 1 ≡ (true ⊕ eqb (n % 2) 1)
+one_more n =
+    bit (eqb (n % 2) 1) (λ t. let e = eqb-true (n % 2) 1 t in rw (t, ne_eqb ((1 + n) % 2) 1 (λ o. absurd (omega arith))))
+    (λ t. let e = eqb-false (n % 2) 1 t in rw (t, eq-eqb ((1 + n) % 2) 1 (omega arith)))
 
-  pub odd_turn : (more sum' : Bool) → i < length row → more ≡ set (get_or row i 0) → sum' ≡ sum ⊕ more → sum' ⊕ odd set (drop (i + 1) row) ≡ odd set row
-  odd_turn more sum' h m s =
-      rw (s, m) (⊕_assoc sum (set (get_or row i 0)) (odd set (drop (i + 1) row)) ∙ sym (ap (λ (l : Row). sum ⊕ odd set l) (drop_turn row i h)) ∙ left)
+pub odd_counted : (set : Qubits) (row : Row) → eqb (count_by set row % 2) 1 ≡ odd set row
+odd_counted set [] = refl
+odd_counted set (q ∷ row) =
+    ap (λ (n : ℕ). eqb (n % 2) 1) (sum_by-cons (λ (p : ℕ). cond (set p) 1 0) q row)
+    ∙ bit (set q) (λ t. rw t (one_more (count_by set row) ∙ ap (true ⊕◌) (odd_counted set row))) (λ t. rw (t, zero-add) (odd_counted set row))
 
 module _ (set : Qubits) (flat ends : List ℕ) (from to r : ℕ) (left : even_for? set (rows_between flat ends r to) ≡ even_for? set (rows_between flat ends from to)) where
   pub even_end : to ≤ r → true ≡ even_for? set (rows_between flat ends from to)

@@ -1,14 +1,13 @@
 // Counts of a run.
 #![tactic(auto)]
 
-ghost use Rattle.std.specs.Prelude.{◌≡◌, cond, eqb};
-ghost use Rattle.records.specs.Table.{refusal_number};
-ghost use Rattle.counts.specs.Counts.{total, refusal_more, code_more, decode_more, record_more, tallied};
+ghost use Rattle.std.specs.Prelude.{◌≡◌, cond};
+ghost use Rattle.counts.specs.Counts.{total, is_again, refusal_more, code_more, decode_more, record_more, tallied};
 
 use records::{Answer, Refusal};
 
-// The bytes and records taken, the codes completed, the decodes reported and the records refused. last: the number of the last refusal, 0
-// where there was none. more: how many refusals of that number followed the first one of its run.
+// The bytes and records taken, the codes completed, the decodes reported and the records refused. last: the last refusal. more: how many
+// refusals of its number followed the first one of its run.
 #[derive(Clone, Copy)]
 pub struct Tally {
     pub bytes: u64,
@@ -16,76 +15,75 @@ pub struct Tally {
     pub codes: u64,
     pub decodes: u64,
     pub refusals: u64,
-    pub last: u8,
+    pub last: Option<Refusal>,
     pub more: u64,
 }
 
-// A sum of counts; one that does not fit stays at the largest number.
-pub fn sum(a: u64, b: u64) -> u64
-    ensures { result ≡ total a b }
-{
-    if u64::MAX - a < b {
-        return u64::MAX;
+impl Tally {
+    // One more of a run of refusals, or the first of another.
+    fn next_more(self, refusal: Refusal) -> u64
+        ensures { result ≡ cond (is_again self.last refusal) (total self.more 1) 0 }
+    {
+        if self.last == Some(refusal) {
+            self.more.saturating_add(1)
+        } else {
+            0
+        }
     }
-    a + b
-}
 
-// One more of a run of refusals, or the first of another.
-fn next_more(t: Tally, number: u8) -> u64
-    ensures { result ≡ cond (eqb t.last number) (total t.more 1) 0 }
-{
-    if t.last == number {
-        return sum(t.more, 1);
+    // A refusal more.
+    fn refused(self, refusal: Refusal) -> Tally
+        ensures { result ≡ refusal_more self refusal }
+    {
+        Tally {
+            refusals: self.refusals.saturating_add(1),
+            last: Some(refusal),
+            more: self.next_more(refusal),
+            ..self
+        }
     }
-    0
-}
 
-// A refusal more.
-fn refused(mut t: Tally, refusal: Refusal) -> Tally
-    ensures { result ≡ refusal_more t (refusal_number refusal) }
-{
-    let number = rules::refusal_number(refusal);
-    let more = next_more(t, number);
-    t.refusals = sum(t.refusals, 1);
-    t.more = more;
-    t.last = number;
-    t
-}
+    // A code more.
+    fn completed(self) -> Tally
+        ensures { result ≡ code_more self }
+    {
+        Tally {
+            codes: self.codes.saturating_add(1),
+            ..self
+        }
+    }
 
-// A code more.
-fn completed(mut t: Tally) -> Tally
-    ensures { result ≡ code_more t }
-{
-    t.codes = sum(t.codes, 1);
-    t
-}
+    // A decode more.
+    fn decoded(self) -> Tally
+        ensures { result ≡ decode_more self }
+    {
+        Tally {
+            decodes: self.decodes.saturating_add(1),
+            ..self
+        }
+    }
 
-// A decode more.
-fn decoded(mut t: Tally) -> Tally
-    ensures { result ≡ decode_more t }
-{
-    t.decodes = sum(t.decodes, 1);
-    t
-}
+    // A record more, of so many bytes.
+    fn taken(self, length: usize) -> Tally
+        ensures { result ≡ record_more self length }
+    {
+        Tally {
+            bytes: self.bytes.saturating_add(length as u64),
+            records: self.records.saturating_add(1),
+            ..self
+        }
+    }
 
-// A record more, of so many bytes.
-fn taken(mut t: Tally, length: usize) -> Tally
-    ensures { result ≡ record_more t length }
-{
-    t.bytes = sum(t.bytes, length as u64);
-    t.records = sum(t.records, 1);
-    t
-}
-
-// A record more, of so many bytes and with this answer.
-pub fn add(t: Tally, length: usize, answer: Answer) -> Tally
-    ensures { result ≡ tallied t length answer }
-{
-    let one = taken(t, length);
-    match answer {
-        Answer::Refused(r) => refused(one, r),
-        Answer::Taken => one,
-        Answer::Complete(_) => completed(one),
-        Answer::Decoded(_) => decoded(one),
+    // A record more, of so many bytes and with this answer.
+    pub fn add(self, length: usize, answer: Answer) -> Tally
+        ensures { result ≡ tallied self length answer }
+    {
+        let one = self.taken(length);
+        match answer {
+            Answer::Refused(refusal) => one.refused(refusal),
+            Answer::Taken => one,
+            Answer::Complete(_) => one.completed(),
+            Answer::Decoded(_) => one.decoded(),
+        }
     }
 }

@@ -5,7 +5,7 @@ ghost use Rattle.std.specs.Prelude.{◌≡◌, cond, drop};
 ghost use Rattle.cutting.specs.Cutting.{next_of, is_last};
 ghost use Rattle.cutting.specs.Room.{is_full};
 
-use records::Answer;
+use records::{Answer, Refusal};
 
 // The room that an answer is sure to find in the output: 256 bytes and 6 for each of 2,048 qubits are enough.
 const ANSWER: usize = 16384;
@@ -22,43 +22,26 @@ fn record_at(bytes: &[u8], at: usize, ended: bool) -> usize
     if whole <= left {
         return whole;
     }
-    if ended {
-        return left;
-    }
-    0
+    if ended { left } else { 0 }
 }
 
 // The same, but 0 where none is to be taken.
 pub fn next_length(stop: bool, block: &[u8], at: usize, ended: bool) -> usize
     ensures { result ≡ cond stop 0 (next_of ended (drop at block.now)) }
 {
-    if stop {
-        return 0;
-    }
-    record_at(block, at, ended)
+    if stop { 0 } else { record_at(block, at, ended) }
 }
 
 // Records are over after refusal 1, of an unknown kind, and refusal 2, of a record that is cut off.
 pub fn is_last(answer: Answer) -> bool
     ensures { result ≡ is_last answer }
 {
-    match answer {
-        Answer::Refused(r) => rules::refusal_number(r) <= 2,
-        Answer::Taken => false,
-        Answer::Complete(_) => false,
-        Answer::Decoded(_) => false,
-    }
+    matches!(answer, Answer::Refused(Refusal::Unknown | Refusal::Length))
 }
 
 // Whether another answer, or its place, has no room.
 pub fn is_full(put: usize, room: usize, noted: usize, most: usize) -> bool
     ensures { result ≡ is_full put room noted most }
 {
-    if room < put {
-        return true;
-    }
-    if room - put < ANSWER {
-        return true;
-    }
-    most <= noted
+    room.saturating_sub(put) < ANSWER || most <= noted
 }

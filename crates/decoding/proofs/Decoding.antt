@@ -17,7 +17,9 @@ use Rattle.records.specs.declared.Refusal.TheVariants.{Codeless, Spoiled, Short}
 use Rattle.records.specs.declared.Report.{Report}
 use Rattle.records.specs.declared.Answer.TheVariants.{Decoded}
 use Rattle.records.specs.declared.Reply.{Reply}
-use Rattle.records.specs.Records.{Pauli, X, Z, Record, report}
+use Rattle.records.specs.declared.Pauli.{Pauli}
+use Rattle.records.specs.declared.Pauli.TheVariants.{X, Z}
+use Rattle.records.specs.Records.{Record, report}
 use Rattle.records.specs.History.{Code, sizes_of, Shot, History, ready, empty_shot, half}
 use Rattle.records.specs.Table.{in_range, refusal}
 use Rattle.records.specs.Lists.{Six, Lent, held, lent_of, short_lists, short_half, short_six, Holds, Represents}
@@ -30,8 +32,7 @@ use Rattle.records.proofs.Range.{InRange, range_out, LongLists, long_lists, Long
 use Rattle.readout.specs.Readout.{Begun}
 use Rattle.readout.proofs.Shots.{left_begun, holds_opened}
 use Rattle.window.specs.Entering.{Enters}
-use Rattle.decodable.specs.declared.Test.{Test}
-use Rattle.decodable.specs.declared.Test.TheVariants.{Passed, Failed}
+use Rattle.std.specs.Prelude.{Result, Ok, Err}
 use Rattle.decodable.specs.Tests.{lacking?, test_of}
 use Rattle.decoding.specs.Decoding.{given_of, shown_of, BothEnough, Obeying, Reports, Replies}
 use Rattle.decoding.proofs.Halves.{both_enough, shown_held, obeying}
@@ -60,20 +61,20 @@ pub record Passes (st : State) (lacking : Bool) : Type 0 where
   pub clean : st.spoiled ≡ false
   pub whole : lacking ≡ false
 
-passes : (st : State) (lacking : Bool) → test_of st lacking ≡ Passed → Passes st lacking
+passes : (st : State) (lacking : Bool) → test_of st lacking ≡ Ok tt → Passes st lacking
 unfolding test_of
 passes st lacking e =
     let z = chain (without_code st.phase) st.spoiled lacking _ _ _ e in record { coded = z.0; clean = z.1; whole = z.2 }
   where
-    chain : (a b c : Bool) (p q r : Reply) → cond a (Failed p) (cond b (Failed q) (cond c (Failed r) Passed)) ≡ Passed → (a ≡ false) × (b ≡ false) × (c ≡ false)
+    chain : (a b c : Bool) (p q r : Reply) → ◌≡◌ {A = Result (Unit {0}) Reply} (cond a (Err p) (cond b (Err q) (cond c (Err r) (Ok tt)))) (Ok tt) → (a ≡ false) × (b ≡ false) × (c ≡ false)
     chain true b c p q r e = let z : ◌≡◌ {A = ℕ} 0 1 = cc in absurd (omega arith)
     chain false true c p q r e = let z : ◌≡◌ {A = ℕ} 0 1 = cc in absurd (omega arith)
     chain false false true p q r e = let z : ◌≡◌ {A = ℕ} 0 1 = cc in absurd (omega arith)
     chain false false false p q r e = (refl, refl, refl)
 
 -- As the code tells it.
-pub passed : (st : State) (l : Lent) (lacking : Bool) (test : Test) → lacking ≡ lacking? st.sizes l → test ≡ test_of st lacking
-    → test ≡ Passed → Passes st (lacking? st.sizes l)
+pub passed : (st : State) (l : Lent) (lacking : Bool) (test : Result (Unit {0}) Reply) → lacking ≡ lacking? st.sizes l → test ≡ test_of st lacking
+    → test ≡ Ok tt → Passes st (lacking? st.sizes l)
 passed st l lacking test e f g = subst (Passes st) e (passes st lacking (sym f ∙ g))
 
 -- Lists that lack nothing.
@@ -98,7 +99,7 @@ whole z l e =
 ----------------------------------------------------------------------
 -- Refused
 
-same_reply : (a b : Reply) → Failed a ≡ Failed b → b ≡ a
+same_reply : (a b : Reply) → ◌≡◌ {A = Result (Unit {0}) Reply} (Err a) (Err b) → b ≡ a
 same_reply a b e = cc
 
 module _ (budget limit : ℕ) (st : State) (l : Lent) (reply : Reply) where
@@ -106,7 +107,7 @@ module _ (budget limit : ℕ) (st : State) (l : Lent) (reply : Reply) where
   w = report budget limit
 
   -- By the number in the table; nothing is written.
-  refuse : (n : Refusal) → Failed (saying n true st) ≡ Failed reply → ((a : History) → Represents a st l.lists → refusal_at w a l ≡ some n)
+  refuse : (n : Refusal) → ◌≡◌ {A = Result (Unit {0}) Reply} (Err (saying n true st)) (Err reply) → ((a : History) → Represents a st l.lists → refusal_at w a l ≡ some n)
       → Promised w st l l reply
   refuse n e f =
       record {
@@ -124,11 +125,11 @@ module _ (budget limit : ℕ) (st : State) (l : Lent) (reply : Reply) where
       }
 
   -- Of a complete code.
-  refuse_code : without_code st.phase ≡ false → (n : Refusal) → Failed (saying n true st) ≡ Failed reply
+  refuse_code : without_code st.phase ≡ false → (n : Refusal) → ◌≡◌ {A = Result (Unit {0}) Reply} (Err (saying n true st)) (Err reply)
       → ((c : Code) (s : Shot) → Holds c s st l.lists → refusal_at w (ready c s) l ≡ some n) → Promised w st l l reply
   refuse_code t n e g = refuse n e (with_code st l.lists (λ a. refusal_at w a l ≡ some n) t g)
 
-  by_test : test_of st (lacking? st.sizes l) ≡ Failed reply → Promised w st l l reply
+  by_test : test_of st (lacking? st.sizes l) ≡ Err reply → Promised w st l l reply
   unfolding test_of refusal lacking?
   by_test e =
       bit (without_code st.phase) (λ t. refuse Codeless (rw t at e) (λ a h. rw (no_code st l.lists a h t)))
@@ -137,9 +138,9 @@ module _ (budget limit : ℕ) (st : State) (l : Lent) (reply : Reply) where
       let u : (short_lists l.lists (length l.window) (length l.work) || short_six l.six c.n) ≡ true
       = rw v.sizes at (short_of (short_lists l.lists (length l.window) (length l.work)) (short_six l.six st.sizes.n) (in_range st.sizes.n st.sizes.x st.sizes.z) k (rw v.sizes v.range)) in
       rw (← v.spoiled, i, u)))
-      (λ k. let f : Passed ≡ Failed reply = rw (t, i, k) at e in let z : ◌≡◌ {A = ℕ} 0 1 = cc in absurd (omega arith))))
+      (λ k. let f : ◌≡◌ {A = Result (Unit {0}) Reply} (Ok tt) (Err reply) = rw (t, i, k) at e in let z : ◌≡◌ {A = ℕ} 0 1 = cc in absurd (omega arith))))
 
-  pub decode_refused : (lacking : Bool) (test : Test) → lacking ≡ lacking? st.sizes l → test ≡ test_of st lacking → test ≡ Failed reply
+  pub decode_refused : (lacking : Bool) (test : Result (Unit {0}) Reply) → lacking ≡ lacking? st.sizes l → test ≡ test_of st lacking → test ≡ Err reply
       → Promised w st l l reply
   decode_refused lacking test e f g = by_test (ap (test_of st) (sym e) ∙ sym f ∙ g)
 

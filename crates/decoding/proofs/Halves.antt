@@ -22,12 +22,14 @@ use Rattle.machine.specs.declared.HalfReport.{HalfReport}
 use Rattle.machine.specs.Machine.{Half}
 use Rattle.machine.specs.Report.{outcome}
 use Rattle.machine.specs.Lists.{HalfLists}
-use Rattle.halves.specs.declared.HalfAnswer.{HalfAnswer}
+use Rattle.std.specs.Prelude.{Option}
 use Rattle.halves.specs.Starts.{RowsObey}
 use Rattle.scans.specs.Rows.{RowLists, ListedIn}
 use Rattle.halves.specs.Decode.{Given, enough_in?, Decodes}
 use Rattle.records.specs.declared.Sizes.{Sizes}
-use Rattle.records.specs.Records.{Pauli, X, Z, lost, lit, unread}
+use Rattle.records.specs.declared.Pauli.{Pauli}
+use Rattle.records.specs.declared.Pauli.TheVariants.{X, Z}
+use Rattle.records.specs.Records.{lost, lit, unread}
 use Rattle.records.specs.History.{Code, sizes_of, Shot, half}
 use Rattle.records.specs.Lists.{Lists, Six, marks, HeldShot}
 use Rattle.records.proofs.Range.{InRange, LongLists, LongHalf}
@@ -37,7 +39,7 @@ use Rattle.decoding.specs.Decoding.{readings_of, given_by, given_of, shown_of, r
 -- Both decoded
 
 module _ (z : Sizes) (budget limit : ℕ) (l : Lists) (readings : List ℕ) (told : readings ≡ readings_of l.shot) (work work' work'' : List ℕ) (x zed x' zed' : HalfLists)
-    (r s : HalfAnswer) (a b : HalfReport) (by : Decodes (given_by X z l readings budget limit) work work' x x' r) (then : Decodes (given_by Z z l readings budget limit) work' work'' zed zed' s) where
+    (r s : Option HalfReport) (a b : HalfReport) (by : Decodes (given_by X z l readings budget limit) work work' x x' r) (then : Decodes (given_by Z z l readings budget limit) work' work'' zed zed' s) where
   d : Decodes (given_of X z l budget limit) work work' x x' r
   d = subst (λ (k : List ℕ). Decodes (given_by X z l k budget limit) work work' x x' r) told by
 

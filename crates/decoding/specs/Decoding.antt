@@ -1,16 +1,18 @@
 -- What a decode does, beside the promise of its record.
 --   readings_of  the part of the shot's list that has the rows' elements
+--   six_lent     what the six lists of a decode hold
 --   given_of     what a half is decoded from: X errors from the Z rows, Z errors from the X rows
 --   undecoded   what is reported of a half that is refused, since a size is out of range or a list too short; report_in: of any answer
 --   BothEnough     both halves are decoded
 --   Reports     what the decode of both halves does
 --   Replies     the reply to it, and what it leaves in the window
-use Rattle.std.specs.Prelude.{◌≡◌, true, false, List, ℕ, length, drop}
+use Rattle.std.specs.Prelude.{◌≡◌, true, false, List, ℕ, length, drop, Option, Some, None}
 use Rattle.machine.specs.declared.Word.TheVariants.{Stopped}
 use Rattle.machine.specs.declared.HalfReport.{HalfReport}
+use Rattle.machine.specs.declared.LentHalf.{LentHalf}
+use Rattle.machine.specs.Lent.{half_lists}
 use Rattle.machine.specs.Report.{Shown, outcome}
 use Rattle.machine.specs.Lists.{Past, Shows, SameLengths}
-use Rattle.halves.specs.declared.HalfAnswer.{HalfAnswer}
 use Rattle.halves.specs.Lists.{half_of}
 use Rattle.halves.specs.Starts.{RowsObey}
 use Rattle.halves.specs.Decode.{Given, own_rows, enough_in?}
@@ -19,7 +21,8 @@ use Rattle.records.specs.declared.State.{State}
 use Rattle.records.specs.declared.Report.{Report}
 use Rattle.records.specs.declared.Answer.TheVariants.{Decoded}
 use Rattle.records.specs.declared.Reply.{Reply}
-use Rattle.records.specs.Records.{Pauli, X, Z}
+use Rattle.records.specs.declared.Pauli.{Pauli}
+use Rattle.records.specs.declared.Pauli.TheVariants.{X, Z}
 use Rattle.records.specs.Lists.{Lists, Six}
 use Rattle.records.specs.States.{ended_of, reported_of}
 use Rattle.window.specs.Entering.{Enters}
@@ -29,6 +32,9 @@ use Rattle.window.specs.Entering.{Enters}
 
 unfoldable pub readings_of : List ℕ → List ℕ
 readings_of shot = drop 1024 shot
+
+abbrev pub six_lent : LentHalf → LentHalf → Six
+six_lent x z = record { x = half_lists x; z = half_lists z }
 
 -- With this list of readings.
 abbrev pub given_by : Pauli → Sizes → Lists → List ℕ → ℕ → ℕ → Given
@@ -74,9 +80,9 @@ pub record BothEnough (sizes : Sizes) (budget limit : ℕ) (l : Lists) (work : �
 abbrev pub undecoded : HalfReport
 undecoded = record { word = Stopped; fixed = 0; turns = 0; guesses = 0; live = 0 }
 
-abbrev pub report_in : HalfAnswer → HalfReport
-report_in (HalfAnswer.Decoded r) = r
-report_in HalfAnswer.Refused = undecoded
+abbrev pub report_in : Option HalfReport → HalfReport
+report_in (Some r) = r
+report_in None = undecoded
 
 -- The half's rows and the other kind's obey document 01.
 abbrev pub Obeying : Given → Type 0

@@ -49,15 +49,14 @@ module _ (q r first count : ℕ) (lit old : List ℕ) where
   pub row_passed : Other first count lit r → RowPut q r first count lit old old
   row_passed f = record { long = refl; puts = λ i a. absurd (f i a); passes = λ g. refl; past = λ small k h. refl }
 
-  pub row_put : first ≤ r → r - first < count → read? lit r ≡ true → (mid new : List ℕ) → Flipped q (r - first) old mid → Raised (r - first) mid new
-      → RowPut q r first count lit old new
-  row_put l m t mid new flip raise =
+  pub row_put : (i : ℕ) → r ≡ first + i → i < count → read? lit r ≡ true → (mid new : List ℕ) → Flipped q i old mid → Raised i mid new → RowPut q r first count lit old new
+  row_put i is within t mid new flip raise =
       record {
         long = raise.long ∙ flip.long;
-        puts = λ i a.
-            let d : r - first ≡ i = omega (arith, a.is) in
+        puts = λ j a.
+            let d : i ≡ j = omega (arith, a.is) in
             (mid, subst (λ (x : ℕ). Flipped q x old mid) d flip, subst (λ (x : ℕ). Raised x mid new) d raise);
-        passes = λ f. absurd (f (r - first) (record { is = omega arith; within = m; read = t }));
+        passes = λ f. absurd (f i (record { is = is; within = within; read = t }));
         past = λ small k h. raise.past k h ∙ flip.beyond k (omega arith);
       }
 

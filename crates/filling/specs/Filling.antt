@@ -6,7 +6,7 @@
 --   RowPut    a row is on a qubit, and has an open qubit more; ReadAs: it is one of the half's that was read
 --   Opens     a qubit becomes open: the numbers of the rows, and the rows on each qubit, have it
 --   RowsPut   the same, from the rows on the qubit; QubitKept: from the list of the rows on each qubit; QubitsKept: of all open qubits
---   enough?   whether sizes are in range and lists long enough
+--   enough?   whether sizes are in range and lists long enough; Room: that they are
 --   Fills     everything kept of the rows, from the marks
 use Rattle.std.specs.Prelude.{◌≡◌, Bool, true, false, ◌&&◌, cond, List, ℕ, ◌+◌, ◌≤◌, ◌<◌, eqb, ltb, leb, length, get_or}
 use Rattle.binary.specs.Bits.{◌⊕◌}
@@ -17,6 +17,7 @@ use Rattle.incidence.specs.Incidence.{number_on, rows_on}
 use Rattle.machine.specs.Machine.{is_open, part, put}
 use Rattle.machine.specs.Lists.{view}
 use Rattle.scans.specs.Rows.{RowLists, rows_in, read?, GoodRows}
+use Rattle.scans.specs.Half.{sized?}
 use Rattle.kept.specs.Kept.{row_in, open_in, Counted, Kept, RowsOn, Tallied, Raised}
 
 abbrev pub Beyond : List ℕ → List ℕ → Type 0
@@ -83,8 +84,15 @@ pub record QubitsKept (n : ℕ) (ends : List ℕ) (first count : ℕ) (lit marks
   pub past : Beyond old new
 
 unfoldable pub enough? : ℕ → RowLists → ℕ → Bool
-enough? n c work =
-    leb n 1024 && leb c.count 512 && leb (c.first + c.count) 1024 && leb 9216 work && leb (c.first + c.count) (length c.lit)
+enough? n c work = sized? n c && leb 9216 work
+
+-- Of a work list of that length.
+pub record Room (n : ℕ) (c : RowLists) (work : ℕ) : Type 0 where
+  pub size : n ≤ 1024
+  pub few : c.count ≤ 512
+  pub last : c.first + c.count ≤ 1024
+  pub words : 9216 ≤ work
+  pub lit : c.first + c.count ≤ length c.lit
 
 -- Where sizes are in range and lists long enough, what is kept of good rows is a fresh count over the marks, and the rows on each open qubit. Otherwise nothing is written.
 pub record Fills (n : ℕ) (c : RowLists) (marks old new : List ℕ) : Type 0 where

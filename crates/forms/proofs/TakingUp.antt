@@ -13,7 +13,7 @@ use Rattle.binary.specs.Meaning.{Row, Check}
 use Rattle.binary.specs.Words.{bit}
 use Rattle.binary.proofs.Bits.{&&_false, never, and_out, and_in}
 use Rattle.binary.proofs.WordBits.{order, bit_zero, bit_one, bit_past}
-use Rattle.forms.specs.declared.Taken.TheVariants.{Failed, Live}
+use Rattle.std.proofs.Common.{Some, None}
 use Rattle.machine.specs.Machine.{Form, newest, without, replace, take_at, take_up, one_less}
 use Rattle.machine.specs.Lists.{forms_of}
 use Rattle.machine.proofs.Settling.{side_top}
@@ -117,7 +117,7 @@ module _ (n : ℕ) (row : Row) (lit : Bool) (live top v word : ℕ) (forms : Lis
       far : (k : ℕ) → 64 ≤ k → S k ≡ bit word k
       far k l = s_top (k / 64) (k % 64) (omega arith) ∙ sym (high.is.bits k ∙ side_narrow n forms wide (check lit row) v k l)
 
-  took_nothing : word ≡ 0 → TakenAs n forms (take_up (with_live n forms live) (check lit row)) (Live live)
+  took_nothing : word ≡ 0 → TakenAs n forms (take_up (with_live n forms live) (check lit row)) (Some live)
   took_nothing e = rw (by_words, S_is, newest_zero live (bit 0) (λ i. bit_zero (suc i)), bit_zero 0) (refl, refl, topped)
     where
       first : v ≡ 0
@@ -126,7 +126,7 @@ module _ (n : ℕ) (row : Row) (lit : Bool) (live top v word : ℕ) (forms : Lis
       S_is : S ≡ bit 0
       S_is = low_part first ∙ ap bit e
 
-  took_failed : v ≡ 0 → word ≡ 1 → TakenAs n forms (take_up (with_live n forms live) (check lit row)) Failed
+  took_failed : v ≡ 0 → word ≡ 1 → TakenAs n forms (take_up (with_live n forms live) (check lit row)) None
   took_failed z e = rw (by_words, S_is, newest_zero live (bit 1) (λ i. bit_one (suc i) ∙ eqb-suc-zero i), bit_one 0) refl
     where
       S_is : S ≡ bit 1
@@ -191,27 +191,27 @@ module _ (n : ℕ) (row : Row) (lit : Bool) (live top v word : ℕ) (forms : Lis
             past q j h =
                 rw (le-ltb q n h) (sym (without_none guess (λ i. false ⊕ (false && S i)) (λ i. refl) j))
 
-        took_guess : TakenAs n forms' (take_up (with_live n forms live) (check lit row)) (Live (live - 1))
+        took_guess : TakenAs n forms' (take_up (with_live n forms live) (check lit row)) (Some (live - 1))
         took_guess =
             let e : suc (guess - 1) ≡ guess = omega arith in
             let f : forms_of n forms' ≡ (λ q. replace (suc (guess - 1)) S (forms_of n forms q)) = forms_then ∙ ap {B = ℕ → Form} (λ (x : ℕ) (q : ℕ). replace x S (forms_of n forms q)) (sym e) in
-            rw (by_words, S_newest) (ap Live (less_one live), f, λ q j h. ap (λ (g : ℕ → Form). g q j) forms_then ∙ replaced_top q j h)
+            rw (by_words, S_newest) (ap Some (less_one live), f, λ q j h. ap (λ (g : ℕ → Form). g q j) forms_then ∙ replaced_top q j h)
 
 ----------------------------------------------------------------------
 -- For every list and every forms
 
 module _ (n : ℕ) (row : Row) (lit : Bool) (live : ℕ) (forms : List ℕ) where
-  pub takes_none : length forms / 4 < n → TakesUp n (check lit row) live Failed forms forms
+  pub takes_none : length forms / 4 < n → TakesUp n (check lit row) live None forms forms
   takes_none h = record { long = refl; rest = λ q i. refl; taken = λ l top. absurd (omega arith); refused = λ l. (refl, refl) }
 
   module _ (top v word : ℕ) (is-top : top ≡ top_word live) (room : n ≤ length forms / 4) (wide : Wide forms) (high : HighestPart n forms (check lit row) top v word) where
     reach : Reaches live top
     reach = top_reaches live top is-top
 
-    pub takes_nothing : word ≡ 0 → TakesUp n (check lit row) live (Live live) forms forms
+    pub takes_nothing : word ≡ 0 → TakesUp n (check lit row) live (Some live) forms forms
     takes_nothing e = record { long = refl; rest = λ q i. refl; taken = λ l topped. took_nothing n row lit live top v word forms reach wide high topped e; refused = λ l. absurd (omega arith) }
 
-    pub takes_failed : (eqb v 0 && eqb word 1) ≡ true → TakesUp n (check lit row) live Failed forms forms
+    pub takes_failed : (eqb v 0 && eqb word 1) ≡ true → TakesUp n (check lit row) live None forms forms
     takes_failed t =
         let e = and_out (eqb v 0) (eqb word 1) t in
         record {
@@ -232,7 +232,7 @@ module _ (n : ℕ) (row : Row) (lit : Bool) (live : ℕ) (forms : List ℕ) wher
             ⊎_elim (λ (m : 0 < word). never (and_in (eq-eqb v 0 z) (eq-eqb word 1 (omega arith))) not-one) (λ (m : word ≤ 0). some (omega arith)) (order 0 word)
 
     module _ (k : ℕ) (new : NewestBit word k) (some : word ≡ 0 → ⊥) (not-one : (eqb v 0 && eqb word 1) ≡ false) where
-      pub takes_dead : live ≡ 0 → TakesUp n (check lit row) live Failed forms forms
+      pub takes_dead : live ≡ 0 → TakesUp n (check lit row) live None forms forms
       takes_dead e =
           record {
             long = refl;
@@ -242,7 +242,7 @@ module _ (n : ℕ) (row : Row) (lit : Bool) (live : ℕ) (forms : List ℕ) wher
           }
 
       pub takes_guess : (a b forms' : List ℕ) → Changed n (adding_below v k v (side_in n forms (check lit row))) forms a → Changed n (replacing v k (bit word)) a b
-          → Changed n (moved_to v top) b forms' → TakesUp n (check lit row) live (Live (live - 1)) forms forms'
+          → Changed n (moved_to v top) b forms' → TakesUp n (check lit row) live (Some (live - 1)) forms forms'
       takes_guess a b forms' added shut moved =
           record {
             long = moved.long ∙ shut.long ∙ added.long;

@@ -1,5 +1,5 @@
 -- What the functions on a row's side promise.
---   check        a row with its lit bit
+--   check        a row with its lit bit; check_of: as a function is given it
 --   top_word      the highest word that the live guesses reach
 --   word_of       a word of a qubit's form; 0 for a qubit n or above
 --   IsSideWord   a word of a row's side
@@ -8,10 +8,14 @@
 use Rattle.std.specs.Prelude.{◌≡◌, Bool, true, false, cond, List, ℕ, suc, ◌+◌, ◌*◌, ◌/◌, ◌^◌, ◌≤◌, ◌<◌, ltb, get_or}
 use Rattle.binary.specs.Meaning.{Row, Check}
 use Rattle.binary.specs.Words.{bit}
+use Rattle.forms.specs.declared.Check.{Check as Given}
 use Rattle.forms.specs.Words.{side_in}
 
 abbrev pub check : Bool → Row → Check
 check lit row = record { lit = lit; row = row }
+
+abbrev pub check_of : Given → Check
+check_of c = check c.lit c.row.now
 
 unfoldable pub top_word : ℕ → ℕ
 top_word live = cond (ltb live 192) (live / 64) 3

@@ -2,38 +2,34 @@
 ghost use Rattle.std.specs.Prelude.{◌≡◌, ℕ, ◌*◌, ◌≤◌, ◌<◌, length};
 ghost use Rattle.binary.specs.Words.{bit};
 ghost use Rattle.machine.specs.Machine.{without, replace};
-ghost use Rattle.forms.specs.Sides.{check};
+ghost use Rattle.forms.specs.Sides.{check_of};
 ghost use Rattle.forms.specs.Words.{side_in};
 ghost use Rattle.forms.specs.Changes.{Changed, adding, adding_below, replacing, moving_down, moved_to};
 
-use crate::sides;
+use crate::{Check, sides};
 
 // Word u of a side added in the forms of the first n qubits that have bit k of word v.
 fn add_side(n: usize, v: usize, k: u32, u: usize, side: u64, forms: &mut [u64])
     requires { (4 * n ≤ length forms.old) × (v < 4) × (k < 64) × (u < 4) }
     ensures { Changed n (adding v k u (bit side)) forms.old forms.new }
 {
-    let mut q: usize = 0;
-    while q < n {
+    for q in 0..n {
         let guess = 4 * q + v;
         let to = 4 * q + u;
         if (forms[guess] >> k) % 2 == 1 {
-            forms[to] = forms[to] ^ side;
+            forms[to] ^= side;
         }
-        q += 1;
     }
 }
 
 // The words of a row's side below word v added in the forms of the first n qubits that have bit k of word v.
-pub fn add_below(n: usize, row: &[u16], lit: bool, v: usize, k: u32, forms: &mut [u64])
+pub fn add_below(n: usize, check: &Check<'_>, v: usize, k: u32, forms: &mut [u64])
     requires { (4 * n ≤ length forms.old) × (v < 4) × (k < 64) }
-    ensures { Changed n (adding_below v k v (side_in n forms.old (check lit row.now))) forms.old forms.new }
+    ensures { Changed n (adding_below v k v (side_in n forms.old (check_of check.now))) forms.old forms.new }
 {
-    let mut u: usize = 0;
-    while u < v {
-        let side = sides::side_word(n, row, lit, u, forms);
+    for u in 0..v {
+        let side = sides::side_word(n, check, u, forms);
         add_side(n, v, k, u, side, forms);
-        u += 1;
     }
 }
 
@@ -61,14 +57,12 @@ pub fn replace_in_word(n: usize, v: usize, k: u32, side: u64, forms: &mut [u64])
     requires { (4 * n ≤ length forms.old) × (v < 4) × (k < 64) }
     ensures { Changed n (replacing v k (bit side)) forms.old forms.new }
 {
-    let mut q: usize = 0;
-    while q < n {
+    for q in 0..n {
         let at = 4 * q + v;
         let word = forms[at];
         if word >> k != 0 {
             forms[at] = replaced(word, k, side);
         }
-        q += 1;
     }
 }
 
@@ -77,13 +71,11 @@ fn move_down(n: usize, u: usize, forms: &mut [u64])
     requires { (4 * n ≤ length forms.old) × (0 < u) × (u < 4) }
     ensures { Changed n (moving_down u) forms.old forms.new }
 {
-    let mut q: usize = 0;
-    while q < n {
+    for q in 0..n {
         let at = 4 * q + u;
         let word = forms[at];
-        forms[at - 1] = forms[at - 1] ^ ((word % 2) << 63);
+        forms[at - 1] ^= (word % 2) << 63;
         forms[at] = word >> 1;
-        q += 1;
     }
 }
 
@@ -92,9 +84,7 @@ pub fn move_above(n: usize, v: usize, top: usize, forms: &mut [u64])
     requires { (4 * n ≤ length forms.old) × (v ≤ top) × (top < 4) }
     ensures { Changed n (moved_to v top) forms.old forms.new }
 {
-    let mut u = v;
-    while u < top {
-        u += 1;
-        move_down(n, u, forms);
+    for u in v..top {
+        move_down(n, u + 1, forms);
     }
 }

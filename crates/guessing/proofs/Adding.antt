@@ -34,9 +34,6 @@ pub record Adding (n share : ℕ) (row old work : List ℕ) (i : ℕ) : Type 0 w
   pub left : Distinct row
       → Distinct (drop i row) × ((q : ℕ) → q < n → added_at share (has (drop i row) q) (weight_of work q) ≡ added_at share (has row q) (weight_of old q))
 
-pub adding_start : (n share : ℕ) (row old : List ℕ) → Adding n share row old old 0
-adding_start n share row old = record { alone = alone_same n old; left = λ d. (d, λ q h. refl) }
-
 module _ (n share : ℕ) (row old work : List ℕ) (i : ℕ) (a : Adding n share row old work i) where
   pub adding_end : length row ≤ i → AddedRow n share row old work
   adding_end h = record {

@@ -13,12 +13,11 @@ use lib.ListN.{get_or}
 use Rattle.binary.specs.Meaning.{Qubits}
 use Rattle.binary.proofs.Bits.{never}
 use Rattle.binary.proofs.WordBits.{order}
-use Rattle.guessing.specs.declared.Choice.TheVariants.{NoQubit, Named}
 use Rattle.machine.specs.Machine.{is_open, pairs, degree, fewer, better, best, freest}
 use Rattle.machine.specs.Lists.{view}
 use Rattle.machine.proofs.Guessing.{best_rule}
 use Rattle.scans.specs.Rows.{RowLists, row_checks}
-use Rattle.guessing.specs.Guessing.{weight_of, Weighed, lighter, choice_of}
+use Rattle.guessing.specs.Guessing.{weight_of, Weighed, lighter}
 use Rattle.guessing.proofs.Weighing.{degree_few}
 
 ----------------------------------------------------------------------
@@ -59,18 +58,6 @@ module _ (n : ℕ) (work : List ℕ) (at largest : ℕ) where
 
       pub leads_left : beats (eqb (get_or marks q 0) 4) ≡ false → Leads n work at largest (best_below n marks work (q + 1))
       leads_left e = rw (add-one, lt-ltb q n h) (stays (eqb (get_or marks q 0) 4) (best_below n marks work q) l e)
-
-  pub leads_within : (r : Option ℕ) → Leads n work at largest r → at ≤ n
-  leads_within none l = omega arith
-  leads_within (some p) l = omega arith
-
-  pub leads_none : (r : Option ℕ) → Leads n work at largest r → at ≡ n → NoQubit ≡ choice_of r
-  leads_none none l e = refl
-  leads_none (some p) l e = absurd (omega arith)
-
-  pub leads_one : (r : Option ℕ) → Leads n work at largest r → (at ≡ n → ⊥) → Named (record { 0 = at }) ≡ choice_of r
-  leads_one none l e = absurd (e l)
-  leads_one (some p) l e = rw l.0
 
 ----------------------------------------------------------------------
 -- The weights that decide

@@ -18,11 +18,11 @@ use Rattle.code.specs.Lists.{row_at}
 use Rattle.code.specs.Tests.{Ascending}
 use Rattle.code.proofs.Order.{ascending_distinct}
 use Rattle.machine.specs.Machine.{put, part}
-use Rattle.scans.specs.Rows.{RowLists, rows_in, check_in, read_in?, GoodRows}
+use Rattle.scans.specs.Rows.{RowLists, check_in, read_in?, GoodRows}
 use Rattle.kept.specs.Kept.{row_in, open_in, Kept, RowsOn}
 use Rattle.kept.proofs.Same.{row_of_lem}
 use Rattle.kept.proofs.Lowering.{not_has, one_less_lem, has_none}
-use Rattle.guessing.specs.Guessing.{weight_of, Weighed, change_of, added_at, WeightsAlone, AddedRow, RenewedRows}
+use Rattle.guessing.specs.Guessing.{weight_of, Weighed, change_of, added_at, WeightsAlone, AddedRow, with_lit, RenewedRows}
 use Rattle.guessing.proofs.Adding.{alone_same, alone_on}
 use Rattle.guessing.proofs.Weighing.{has_in, pair_in, weight_tally, weight_small}
 
@@ -134,32 +134,32 @@ module _ (n : ℕ) (c : RowLists) (p : ℕ) (o : Qubits) (work₀ : List ℕ) (f
 -- The loop
 
 -- Whatever the list holds: its length, and the elements beside the weights, stay; row i is the next on the qubit.
-pub record Renewing (n : ℕ) (flat ends : List ℕ) (first count p : ℕ) (work₀ work : List ℕ) (i : ℕ) : Type 0 where
+pub record Renewing (n : ℕ) (r : RowLists) (p : ℕ) (work₀ work : List ℕ) (i : ℕ) : Type 0 where
   pub alone : WeightsAlone n work₀ work
-  pub found : i < count → in_set work p i ≡ true
-  pub within : i ≤ count
-  pub so : (lit : List ℕ) → let c = rows_in flat ends first count lit in (few : count ≤ 512) (o : Qubits) (g : Given n c p o work₀)
+  pub found : i < r.count → in_set work p i ≡ true
+  pub within : i ≤ r.count
+  pub so : (lit : List ℕ) → let c = with_lit r lit in (few : r.count ≤ 512) (o : Qubits) (g : Given n c p o work₀)
       → (q : ℕ) → o q ≡ true → weight_of work q ≡ mixed_weight n c p o work₀ few g i q
 
-module _ (n : ℕ) (flat ends : List ℕ) (first count p : ℕ) (work₀ : List ℕ) where
-  pub renewing_start : (i : ℕ) → NextIn work₀ p 0 count i → Renewing n flat ends first count p work₀ work₀ i
+module _ (n : ℕ) (r : RowLists) (p : ℕ) (work₀ : List ℕ) where
+  pub renewing_start : (i : ℕ) → NextIn work₀ p 0 r.count i → Renewing n r p work₀ work₀ i
   renewing_start i f =
       let w = f.within (omega arith) in
       record {
         alone = alone_same n work₀;
         found = f.found;
         within = w.1;
-        so = λ lit few o g q t. let c = rows_in flat ends first count lit in mixed_start n c p o work₀ few g q t ∙ mixed_pass n c p o work₀ few g 0 i q (omega arith) w.1 f.skipped;
+        so = λ lit few o g q t. let c = with_lit r lit in mixed_start n c p o work₀ few g q t ∙ mixed_pass n c p o work₀ few g 0 i q (omega arith) w.1 f.skipped;
       }
 
-  module _ (work : List ℕ) (i : ℕ) (a : Renewing n flat ends first count p work₀ work i) (few : count ≤ 512) where
+  module _ (work : List ℕ) (i : ℕ) (a : Renewing n r p work₀ work i) (few : r.count ≤ 512) where
     -- A list that has the same rows on the qubit.
     same_set : (work' : List ℕ) → ((k : ℕ) → k < 9216 → get_or work' k 0 ≡ get_or work₀ k 0) → p < 1024 → (j : ℕ) → j < 512 → in_set work' p j ≡ in_set work₀ p j
     unfolding in_set
     same_set work' below small j l = ap (λ (x : ℕ). Words.bit x (j % 64)) (below (8 * p + j / 64) (omega arith))
 
-    pub renewing_row : i < count → n ≤ 1024 → (left share : ℕ) → left ≡ get_or work (8704 + i) 0 → share ≡ change_of left → (work' : List ℕ)
-        → AddedRow n share (row_at flat ends (first + i)) work work' → (i' : ℕ) → NextIn work' p (i + 1) count i' → Renewing n flat ends first count p work₀ work' i'
+    pub renewing_row : i < r.count → n ≤ 1024 → (left share : ℕ) → left ≡ get_or work (8704 + i) 0 → share ≡ change_of left → (work' : List ℕ)
+        → AddedRow n share (row_at r.flat r.ends (r.first + i)) work work' → (i' : ℕ) → NextIn work' p (i + 1) r.count i' → Renewing n r p work₀ work' i'
     renewing_row h size left share is e work' v i' f =
         let w = f.within (omega arith) in
         record {
@@ -167,12 +167,12 @@ module _ (n : ℕ) (flat ends : List ℕ) (first count p : ℕ) (work₀ : List 
           found = f.found;
           within = w.1;
           so = λ lit few' o g q t.
-              let c = rows_in flat ends first count lit in
+              let c = with_lit r lit in
               let old = a.so lit few' o g q t in
-              let tight = weight_small o c q count count few few (mixed n c p o work₀ few' g i q) in
+              let tight = weight_small o c q r.count r.count few few (mixed n c p o work₀ few' g i q) in
               let inside = g.inside p g.open_p in
               let small : p < 1024 = omega arith in
-              v.added (row_of_lem (Ascending n) flat ends first count i h g.good.ascending) q (g.inside q t) (omega arith) ∙ ap (λ (s : ℕ). added_at s (has (row_at flat ends (first + i)) q) (weight_of work q)) e
+              v.added (row_of_lem (Ascending n) r.flat r.ends r.first r.count i h g.good.ascending) q (g.inside q t) (omega arith) ∙ ap (λ (s : ℕ). added_at s (has (row_at r.flat r.ends (r.first + i)) q) (weight_of work q)) e
               ∙ mixed_row n c p o work₀ few' g i h (sym (same_set work a.alone.below small i (omega arith)) ∙ a.found h) left (is ∙ a.alone.below (8704 + i) (omega arith) ∙ g.kept.counts i h) q (weight_of work q) old
               ∙ mixed_pass n c p o work₀ few' g (i + 1) i' q w.0 w.1 (λ j l m. sym (same_set work' alone.below small j (omega arith)) ∙ f.skipped j l m);
         }
@@ -180,11 +180,11 @@ module _ (n : ℕ) (flat ends : List ℕ) (first count p : ℕ) (work₀ : List 
         alone : WeightsAlone n work₀ work'
         alone = alone_on n work₀ work work' a.alone v.alone
 
-    pub renewing_end : count ≤ i → RenewedRows n flat ends first count p work₀ work
+    pub renewing_end : r.count ≤ i → RenewedRows n r p work₀ work
     renewing_end h = record {
       alone = a.alone;
       renewed = λ lit good o inside open_p kept on weighed.
-          let c = rows_in flat ends first count lit in
+          let c = with_lit r lit in
           let g : Given n c p o work₀ = record { good = good; inside = inside; open_p = open_p; kept = kept; on = on; weighed = weighed } in
           record {
             weights = λ q t.

@@ -17,11 +17,11 @@ use Rattle.code.specs.Lists.{row_at}
 use Rattle.code.specs.Tests.{Ascending}
 use Rattle.lists.specs.Cleared.{Cleared}
 use Rattle.machine.specs.Machine.{keep_if, part, empty?, pair?, passing, degree}
-use Rattle.scans.specs.Rows.{RowLists, rows_in, check_at, check_in, read?, read_in?, checks_from, row_checks, GoodRows}
+use Rattle.scans.specs.Rows.{RowLists, check_at, check_in, read?, read_in?, checks_from, row_checks, GoodRows}
 use Rattle.kept.specs.Kept.{row_in, open_in, Kept}
 use Rattle.kept.proofs.Same.{row_of_lem, kept_same}
 use Rattle.kept.proofs.Lowering.{has_open}
-use Rattle.guessing.specs.Guessing.{weight_of, weight, share_of, added_at, WeightsAlone, AddedRow, WeighedRows}
+use Rattle.guessing.specs.Guessing.{weight_of, weight, share_of, added_at, WeightsAlone, AddedRow, with_lit, WeighedRows}
 use Rattle.guessing.proofs.Adding.{alone_same, alone_on}
 
 ----------------------------------------------------------------------
@@ -107,41 +107,41 @@ module _ (o : Qubits) (q : ℕ) (t : o q ≡ true) (number : ℕ) where
 -- Row by row
 
 -- The rows before row i are counted.
-pub record Counting (n : ℕ) (flat ends : List ℕ) (first count : ℕ) (work₀ work : List ℕ) (i : ℕ) : Type 0 where
+pub record Counting (n : ℕ) (r : RowLists) (work₀ work : List ℕ) (i : ℕ) : Type 0 where
   pub alone : WeightsAlone n work₀ work
-  pub so : (lit : List ℕ) → let c = rows_in flat ends first count lit in GoodRows n c
+  pub so : (lit : List ℕ) → let c = with_lit r lit in GoodRows n c
       → (o : Qubits) → ((q : ℕ) → o q ≡ true → q < n) → Kept o c work₀
       → (q : ℕ) → o q ≡ true → weight_of work q ≡ 1024 * tally i (pair_in o c q) + tally i (has_in c q)
 
-module _ (n : ℕ) (flat ends : List ℕ) (first count : ℕ) (old work₀ : List ℕ) (f : Cleared 9216 (9216 + n) old work₀) where
-  pub counting_start : Counting n flat ends first count work₀ work₀ 0
+module _ (n : ℕ) (r : RowLists) (old work₀ : List ℕ) (f : Cleared 9216 (9216 + n) old work₀) where
+  pub counting_start : Counting n r work₀ work₀ 0
   counting_start = record {
     alone = alone_same n work₀;
     so = λ lit good o inside k q e. let l = inside q e in f.inside (9216 + q) (omega arith) (omega arith);
   }
 
-  pub counting_end : (work : List ℕ) (i : ℕ) → Counting n flat ends first count work₀ work i → i ≡ count → count ≤ 512 → WeighedRows n flat ends first count old work
+  pub counting_end : (work : List ℕ) (i : ℕ) → Counting n r work₀ work i → i ≡ r.count → r.count ≤ 512 → WeighedRows n r old work
   counting_end work i a e few = record {
     alone = alone_on n old work₀ work (record { long = f.long; below = λ k h. f.outside k (inl h); past = λ k h. f.outside k (inr h) }) a.alone;
     weighed = λ lit good o inside k.
-        let c = rows_in flat ends first count lit in
+        let c = with_lit r lit in
         let kept = kept_same o c old work₀ few (λ j h. f.outside (8192 + j) (inl (omega arith))) (λ j h. f.outside (8704 + j) (inl (omega arith))) k in
         record {
           weights = λ q t. a.so lit good o inside kept q t ∙ ap (λ (x : ℕ). 1024 * tally x (pair_in o c q) + tally x (has_in c q)) e ∙ sym (weight_tally o c q);
         };
   }
 
-module _ (n : ℕ) (flat ends : List ℕ) (first count : ℕ) (work₀ work : List ℕ) (i : ℕ) (a : Counting n flat ends first count work₀ work i) where
-  pub counting_row : i < count → count ≤ 512 → (number share : ℕ) → number ≡ get_or work (8704 + i) 0 → share ≡ share_of number → (work' : List ℕ)
-      → AddedRow n share (row_at flat ends (first + i)) work work' → Counting n flat ends first count work₀ work' (i + 1)
+module _ (n : ℕ) (r : RowLists) (work₀ work : List ℕ) (i : ℕ) (a : Counting n r work₀ work i) where
+  pub counting_row : i < r.count → r.count ≤ 512 → (number share : ℕ) → number ≡ get_or work (8704 + i) 0 → share ≡ share_of number → (work' : List ℕ)
+      → AddedRow n share (row_at r.flat r.ends (r.first + i)) work work' → Counting n r work₀ work' (i + 1)
   counting_row h few number share is e work' v = record {
     alone = alone_on n work₀ work work' a.alone v.alone;
     so = λ lit good o inside k q t.
-        let c = rows_in flat ends first count lit in
+        let c = with_lit r lit in
         let old = a.so lit good o inside k q t in
         let small = weight_small o c q i i (omega arith) (omega arith) (pair_in o c q) in
         rw (add-one i)
-        (v.added (row_of_lem (Ascending n) flat ends first count i h good.ascending) q (inside q t) (omega arith) ∙ ap (λ (s : ℕ). added_at s (has (row_at flat ends (first + i)) q) (weight_of work q)) e
-        ∙ shared o q t number (read_in? c i) (row_at flat ends (first + i)) (tally i (pair_in o c q)) (tally i (has_in c q)) (weight_of work q)
+        (v.added (row_of_lem (Ascending n) r.flat r.ends r.first r.count i h good.ascending) q (inside q t) (omega arith) ∙ ap (λ (s : ℕ). added_at s (has (row_at r.flat r.ends (r.first + i)) q) (weight_of work q)) e
+        ∙ shared o q t number (read_in? c i) (row_at r.flat r.ends (r.first + i)) (tally i (pair_in o c q)) (tally i (has_in c q)) (weight_of work q)
         (is ∙ a.alone.below (8704 + i) (omega arith) ∙ k.counts i h) old (omega arith));
   }

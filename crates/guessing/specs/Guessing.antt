@@ -6,18 +6,20 @@
 --   change_of      what a row adds when one of its qubits is settled: it comes to two open qubits, or leaves them
 --   WeightsAlone  nothing but weights is written
 --   AddedRow      a share added at each qubit of a row
+--   with_lit      the rows of a half with other readings
+--   weighable?    whether sizes are in range and the list long enough for weights; WeighRoom: that they are, part by part
 --   Weighs        the promise of `weigh`: the weights counted
 --   Renews        the promise of `renew`: the weights after a qubit is settled
 --   choice_of      the qubit that the rule names, as an answer
 --   heaviest      the promise of `most_open`: the open qubit of the largest weight, the lowest of equals
 use Rattle.std.specs.Prelude.{◌≡◌, Bool, true, false, ◌&&◌, cond, List, ℕ, ◌+◌, ◌*◌, ◌%◌, ◌≤◌, ◌<◌, eqb, ltb, leb, length, get_or}
-use Rattle.std.proofs.Math.Option.{Option, none, some}
+use Rattle.std.specs.Prelude.{Option, Some, None}
+use Rattle.std.proofs.Math.Option.{Option as Maybe, none, some}
 use Rattle.binary.specs.Meaning.{Qubits, Check, has}
+use Rattle.code.specs.declared.Qubit.{Qubit}
 use Rattle.code.specs.Tests.{Ascending}
 use Rattle.scans.specs.Rows.{RowLists, rows_in, row_checks, GoodRows}
 use Rattle.kept.specs.Kept.{Kept, RowsOn}
-use Rattle.guessing.specs.declared.Choice.{Choice}
-use Rattle.guessing.specs.declared.Choice.TheVariants.{NoQubit, Named}
 use Rattle.machine.specs.Machine.{put, is_open, pairs, degree, best}
 use Rattle.machine.specs.Lists.{view}
 
@@ -58,29 +60,38 @@ pub record AddedRow (n share : ℕ) (row work work' : List ℕ) : Type 0 where
 ----------------------------------------------------------------------
 -- Counted, and kept
 
--- From what is kept of the rows.
-pub record WeighedRows (n : ℕ) (flat ends : List ℕ) (first count : ℕ) (work work' : List ℕ) : Type 0 where
+abbrev pub with_lit : RowLists → List ℕ → RowLists
+with_lit r lit = rows_in r.flat r.ends r.first r.count lit
+
+-- From what is kept of the rows, whatever their readings.
+pub record WeighedRows (n : ℕ) (r : RowLists) (work work' : List ℕ) : Type 0 where
   pub alone : WeightsAlone n work work'
-  pub weighed : (lit : List ℕ) → let c = rows_in flat ends first count lit in GoodRows n c
+  pub weighed : (lit : List ℕ) → let c = with_lit r lit in GoodRows n c
       → (o : Qubits) → ((q : ℕ) → o q ≡ true → q < n) → Kept o c work → Weighed o c work'
 
 -- Qubit p was settled, and what is kept of the rows is without it.
-pub record RenewedRows (n : ℕ) (flat ends : List ℕ) (first count p : ℕ) (work work' : List ℕ) : Type 0 where
+pub record RenewedRows (n : ℕ) (r : RowLists) (p : ℕ) (work work' : List ℕ) : Type 0 where
   pub alone : WeightsAlone n work work'
-  pub renewed : (lit : List ℕ) → let c = rows_in flat ends first count lit in GoodRows n c
+  pub renewed : (lit : List ℕ) → let c = with_lit r lit in GoodRows n c
       → (o : Qubits) → ((q : ℕ) → o q ≡ true → q < n) → o p ≡ true → Kept (put p false o) c work → RowsOn o c work → Weighed o c work → Weighed (put p false o) c work'
 
-unfoldable pub weighable? : ℕ → ℕ → ℕ → ℕ → Bool
-weighable? n first count work = leb n 1024 && leb count 512 && leb (first + count) 1024 && leb 10240 work
+unfoldable pub weighable? : ℕ → RowLists → List ℕ → Bool
+weighable? n r work = leb n 1024 && leb r.count 512 && leb (r.first + r.count) 1024 && leb 10240 (length work)
+
+pub record WeighRoom (n : ℕ) (r : RowLists) (work : List ℕ) : Type 0 where
+  pub size : n ≤ 1024
+  pub few : r.count ≤ 512
+  pub last : r.first + r.count ≤ 1024
+  pub long : 10240 ≤ length work
 
 -- Where sizes are in range and the list long enough; otherwise nothing is written.
-pub record Weighs (n : ℕ) (flat ends : List ℕ) (first count : ℕ) (work work' : List ℕ) : Type 0 where
-  pub refused : weighable? n first count (length work) ≡ false → work' ≡ work
-  pub weighs : weighable? n first count (length work) ≡ true → WeighedRows n flat ends first count work work'
+pub record Weighs (n : ℕ) (r : RowLists) (work work' : List ℕ) : Type 0 where
+  pub refused : weighable? n r work ≡ false → work' ≡ work
+  pub weighs : weighable? n r work ≡ true → WeighedRows n r work work'
 
-pub record Renews (n : ℕ) (flat ends : List ℕ) (first count p : ℕ) (work work' : List ℕ) : Type 0 where
-  pub refused : weighable? n first count (length work) ≡ false → work' ≡ work
-  pub renews : weighable? n first count (length work) ≡ true → RenewedRows n flat ends first count p work work'
+pub record Renews (n : ℕ) (r : RowLists) (p : ℕ) (work work' : List ℕ) : Type 0 where
+  pub refused : weighable? n r work ≡ false → work' ≡ work
+  pub renews : weighable? n r work ≡ true → RenewedRows n r p work work'
 
 ----------------------------------------------------------------------
 -- The guessed qubit
@@ -88,12 +99,12 @@ pub record Renews (n : ℕ) (flat ends : List ℕ) (first count p : ℕ) (work w
 abbrev pub lighter : List ℕ → ℕ → ℕ → Bool
 lighter work p q = ltb (weight_of work p) (weight_of work q)
 
-abbrev pub choice_of : Option ℕ → Choice
-choice_of none = NoQubit
-choice_of (some p) = Named (record { 0 = p })
+abbrev pub choice_of : Maybe ℕ → Option Qubit
+choice_of none = None
+choice_of (some p) = Some (record { 0 = p })
 
-unfoldable pub namable? : ℕ → ℕ → ℕ → Bool
-namable? n marks work = leb n 1024 && leb n marks && leb 10240 work
+unfoldable pub namable? : ℕ → List ℕ → List ℕ → Bool
+namable? n marks work = leb n 1024 && leb n (length marks) && leb 10240 (length work)
 
-unfoldable pub heaviest : ℕ → List ℕ → List ℕ → Choice
-heaviest n marks work = cond (namable? n (length marks) (length work)) (choice_of (best (lighter work) n (is_open (view n marks)))) NoQubit
+unfoldable pub heaviest : ℕ → List ℕ → List ℕ → Option Qubit
+heaviest n marks work = cond (namable? n marks work) (choice_of (best (lighter work) n (is_open (view n marks)))) None

@@ -6,9 +6,11 @@ ghost use Rattle.std.specs.Prelude.{◌≡◌, ◌+◌, ◌≤◌, ◌<◌, leng
 ghost use Rattle.machine.specs.Machine.{is_open, best};
 ghost use Rattle.machine.specs.Lists.{view};
 ghost use Rattle.code.specs.Lists.{row_at};
-ghost use Rattle.guessing.specs.Guessing.{share_of, change_of, AddedRow, WeighedRows, RenewedRows, weighable?, Weighs, Renews, lighter, choice_of, namable?, heaviest};
+ghost use Rattle.scans.specs.Half.{rows_of};
+ghost use Rattle.guessing.specs.Guessing.{share_of, change_of, AddedRow, WeighRoom, WeighedRows, RenewedRows, weighable?, Weighs, Renews, lighter, choice_of, namable?, heaviest};
 
-use code::{Qubit, Row, Rows};
+use code::{Qubit, Row};
+use scans::HalfRows;
 
 // Where the work list has the weights.
 const WEIGHTS: usize = 9216;
@@ -19,37 +21,26 @@ const PAIR: u64 = 1024;
 // Sums are taken modulo this number, so that a row's share can be taken back.
 const MODULUS: u64 = 4294967296;
 
-// The qubit that the guess rule names.
-#[derive(Clone, Copy)]
-pub enum Choice {
-    NoQubit,
-    Named(Qubit),
-}
-
 // What a row adds at each of its qubits, by the number of its open qubits. A row without one is left out.
 fn share(number: u64) -> u64
     ensures { result ≡ share_of number }
 {
-    if number == 0 {
-        return 0;
+    match number {
+        0 => 0,
+        2 => PAIR + 1,
+        _ => 1,
     }
-    if number == 2 {
-        return PAIR + 1;
-    }
-    1
 }
 
 // What a row adds when one of its qubits is settled, by the number that is left: it comes to two open qubits, or leaves them.
 fn change(left: u64) -> u64
     ensures { result ≡ change_of left }
 {
-    if left == 2 {
-        return PAIR;
+    match left {
+        2 => PAIR,
+        1 => MODULUS - PAIR,
+        _ => 0,
     }
-    if left == 1 {
-        return MODULUS - PAIR;
-    }
-    0
 }
 
 // The share is added at each of the row's qubits below n.
@@ -57,125 +48,113 @@ fn add(n: usize, row: &[u16], share: u64, work: &mut [u64])
     requires { (n ≤ 1024) × (10240 ≤ length work.old) × (share < 4294967296) }
     ensures { AddedRow n share row.now work.old work.new }
 {
-    let mut i: usize = 0;
-    while i < row.len() {
-        let q = row[i] as usize;
+    for &qubit in row {
+        let q = qubit as usize;
         if q < n {
             let at = WEIGHTS + q;
             work[at] = (work[at] % MODULUS + share) % MODULUS;
         }
-        i += 1;
     }
 }
 
 // The share is added at each of row r's qubits below n.
-fn add_row(n: usize, flat: &[u16], ends: &[u16], r: Row, share: u64, work: &mut [u64])
+fn add_row(n: usize, half: &HalfRows<'_>, r: Row, share: u64, work: &mut [u64])
     requires { (n ≤ 1024) × (10240 ≤ length work.old) × (share < 4294967296) }
-    ensures { AddedRow n share (row_at flat.now ends.now r.0) work.old work.new }
+    ensures { AddedRow n share (row_at half.now.code.flat.now half.now.code.ends.now r.0) work.old work.new }
 {
     if 0 < share {
-        let row = code::row_at(flat, ends, r);
-        add(n, row, share, work);
+        add(n, half.code.row(r), share, work);
     }
 }
 
 // The weights counted, from what is kept of the rows.
-fn weigh_rows(n: usize, flat: &[u16], ends: &[u16], rows: Rows, work: &mut [u64])
-    requires { (n ≤ 1024) × (rows.count ≤ 512) × (rows.first.0 + rows.count ≤ 1024) × (10240 ≤ length work.old) }
-    ensures { WeighedRows n flat.now ends.now rows.first.0 rows.count work.old work.new }
+fn weigh_rows(n: usize, half: &HalfRows<'_>, work: &mut [u64])
+    requires { WeighRoom n (rows_of half.now) work.old }
+    ensures { WeighedRows n (rows_of half.now) work.old work.new }
 {
-    let begin = rows.first;
-    let first = begin.0;
-    let count = rows.count;
-    lists::clear_words(work, WEIGHTS, WEIGHTS + n);
-    let mut i: u16 = 0;
-    while i < count {
+    lists::clear(work, WEIGHTS, WEIGHTS + n);
+    for i in 0..half.rows.count {
         let number = work[kept::NUMBERS + i as usize];
-        add_row(n, flat, ends, Row(first + i), share(number), work);
-        i += 1;
+        add_row(n, half, Row(half.rows.first.0 + i), share(number), work);
     }
 }
 
 // The weights after qubit p is settled: of the rows on it, those that come to two open qubits, or leave them.
-fn renew_rows(n: usize, flat: &[u16], ends: &[u16], rows: Rows, p: Qubit, work: &mut [u64])
-    requires { (n ≤ 1024) × (rows.count ≤ 512) × (rows.first.0 + rows.count ≤ 1024) × (10240 ≤ length work.old) }
-    ensures { RenewedRows n flat.now ends.now rows.first.0 rows.count p.0 work.old work.new }
+fn renew_rows(n: usize, half: &HalfRows<'_>, p: Qubit, work: &mut [u64])
+    requires { WeighRoom n (rows_of half.now) work.old }
+    ensures { RenewedRows n (rows_of half.now) p.0 work.old work.new }
 {
-    let begin = rows.first;
-    let first = begin.0;
-    let count = rows.count;
-    let mut i = bitsets::next_in(work, p.0, 0, count);
-    while i < count {
+    let rows = half.rows;
+    let mut i = bitsets::next_in(work, p.0, 0, rows.count);
+    while i < rows.count {
         let left = work[kept::NUMBERS + i as usize];
-        add_row(n, flat, ends, Row(first + i), change(left), work);
-        i = bitsets::next_in(work, p.0, i + 1, count);
+        add_row(n, half, Row(rows.first.0 + i), change(left), work);
+        i = bitsets::next_in(work, p.0, i + 1, rows.count);
     }
 }
 
 // Whether the sizes are document 01's and the list long enough for weights.
-fn can_weigh(n: usize, rows: Rows, work: &[u64]) -> bool
-    ensures { result ≡ weighable? n rows.first.0 rows.count (length work.now) }
+fn can_weigh(n: usize, half: &HalfRows<'_>, work: &[u64]) -> bool
+    ensures { result ≡ weighable? n (rows_of half.now) work.now }
 {
-    let first = rows.first;
-    let last = first.0 as usize + rows.count as usize;
+    let rows = half.rows;
+    let last = rows.first.0 as usize + rows.count as usize;
     (n <= 1024) & (rows.count <= 512) & (last <= 1024) & (10240 <= work.len())
 }
 
 // The weights counted, from what is kept of the rows. Nothing is written where a size is out of range or the list too short.
-pub fn weigh(n: usize, flat: &[u16], ends: &[u16], rows: Rows, work: &mut [u64])
-    ensures { Weighs n flat.now ends.now rows.first.0 rows.count work.old work.new }
+pub fn weigh(n: usize, half: &HalfRows<'_>, work: &mut [u64])
+    ensures { Weighs n (rows_of half.now) work.old work.new }
 {
-    if can_weigh(n, rows, work) {
-        weigh_rows(n, flat, ends, rows, work);
+    if can_weigh(n, half, work) {
+        weigh_rows(n, half, work);
     }
 }
 
 // The weights after qubit p is settled, and what is kept of the rows is without it. Nothing is written where a size is out of range or the list too short.
-pub fn renew(n: usize, flat: &[u16], ends: &[u16], rows: Rows, p: Qubit, work: &mut [u64])
-    ensures { Renews n flat.now ends.now rows.first.0 rows.count p.0 work.old work.new }
+pub fn renew(n: usize, half: &HalfRows<'_>, p: Qubit, work: &mut [u64])
+    ensures { Renews n (rows_of half.now) p.0 work.old work.new }
 {
-    if can_weigh(n, rows, work) {
-        renew_rows(n, flat, ends, rows, p, work);
+    if can_weigh(n, half, work) {
+        renew_rows(n, half, p, work);
     }
 }
 
 // The open qubit of the largest weight, the lowest of equals. The parts of the test are joined by `&` and `|`, which do not branch: no branch on a mark or
 // on two weights could be foretold.
-fn most(n: usize, marks: &[u8], work: &[u64]) -> Choice
+fn most(n: usize, marks: &[u8], work: &[u64]) -> Option<Qubit>
     requires { (n ≤ 1024) × (n ≤ length marks.now) × (10240 ≤ length work.now) }
     ensures { result ≡ choice_of (best (lighter work.now) n (is_open (view n marks.now))) }
 {
     let mut at = n;
     let mut largest: u64 = 0;
-    let mut q: usize = 0;
-    while q < n {
+    for q in 0..n {
         let weight = work[WEIGHTS + q];
         let more = (at == n) | (largest < weight);
-        if (marks[q] == 4) & more {
+        if (marks[q] == machine::OPEN) & more {
             at = q;
             largest = weight;
         }
-        q += 1;
     }
     if at == n {
-        return Choice::NoQubit;
+        return None;
     }
-    Choice::Named(Qubit(at as u16))
+    Some(Qubit(at as u16))
 }
 
 // Whether the sizes are document 01's and the lists long enough to name a qubit by.
 fn can_name(n: u16, marks: &[u8], work: &[u64]) -> bool
-    ensures { result ≡ namable? n (length marks.now) (length work.now) }
+    ensures { result ≡ namable? n marks.now work.now }
 {
     (n <= 1024) & (n as usize <= marks.len()) & (10240 <= work.len())
 }
 
-// The open qubit of the largest weight, the lowest of equals; none where a size is out of range or a list too short.
-pub fn most_open(n: u16, marks: &[u8], work: &[u64]) -> Choice
+// The qubit that the guess rule names: the open qubit of the largest weight, the lowest of equals; none where a size is out of range or a list too short.
+pub fn most_open(n: u16, marks: &[u8], work: &[u64]) -> Option<Qubit>
     ensures { result ≡ heaviest n marks.now work.now }
 {
     if can_name(n, marks, work) {
         return most(n as usize, marks, work);
     }
-    Choice::NoQubit
+    None
 }

@@ -3,20 +3,20 @@ use mathlib.Core.Path.{◌≡◌, refl, sym, ap, ap₂, ◌∙◌, fun_ext, subs
 use mathlib.Core.Bool.{Bool, true, false, not, ◌&&◌, cond}
 use mathlib.Core.Logic.{⊎_elim}
 use mathlib.Core.List.{List}
+use Rattle.std.specs.Prelude.{Option, Some, None}
 use Prim.Native.Nat.{ℕ, ◌+◌, ◌*◌, ◌/◌, ◌%◌, ◌^◌, ◌≤◌, ◌<◌}
 use native.Mathlib.Omega.{arith}
 use lib.Dec.{eqb, ltb, leb}
 use lib.ListN.{length, get_or}
 use borrow.Author.Tests.{lt-ltb, le-ltb, leb-true}
 use Rattle.binary.specs.Words.{bit}
-use Rattle.binary.proofs.Bits.{bit as cases, never, and_out}
+use Rattle.binary.proofs.Bits.{bit as cases, never, and_out, not_out}
 use Rattle.binary.proofs.WordBits.{bit_zero, order}
 use Rattle.scans.specs.Rows.{RowLists}
 use Rattle.kept.specs.Kept.{Kept}
 use Rattle.guessing.specs.Guessing.{Weighed}
 use Rattle.machine.specs.declared.Word.{Word}
 use Rattle.machine.specs.declared.HalfReport.{HalfReport}
-use Rattle.halves.specs.declared.HalfAnswer.TheVariants.{Refused, Decoded}
 use Rattle.machine.specs.Words.{finished?}
 use Rattle.machine.specs.Machine.{Form, End, is_open, decoded}
 use Rattle.machine.specs.Fillings.{filling}
@@ -24,13 +24,10 @@ use Rattle.machine.specs.Report.{none?, shown}
 use Rattle.machine.specs.Lists.{view, form_of, HalfLists, digit, Shows, Past}
 use Rattle.machine.proofs.FormWords.{form_in, form_out, form_first, first_digit}
 use Rattle.halves.specs.Decode.{Given, own_rows, enough_in?, Decodes}
-use Rattle.turns.specs.declared.RunAnswer.{RunAnswer}
-use Rattle.turns.specs.declared.RunAnswer.TheVariants.{Over}
-use Rattle.turns.specs.declared.RunAnswer.TheVariants as runs
 use Rattle.turns.specs.Turns.{Working, Stays, KeptOver}
 use Rattle.turns.specs.Runs.{Ran}
 use Rattle.turns.proofs.Marked.{enough_told}
-use Rattle.halves.specs.Starts.{half_in, RowsObey, HalfRan, enough?, HalfRuns, Finished}
+use Rattle.halves.specs.Starts.{half_in, RowsObey, HalfRoom, HalfRan, Finished}
 use Rattle.machine.proofs.Values.{value_off}
 use Rattle.halves.proofs.Finishing.{not_none}
 
@@ -107,83 +104,87 @@ module _ (n : ℕ) (c : RowLists) (mid : Working) (correction : List ℕ) (new :
 ----------------------------------------------------------------------
 -- Sizes in range and lists long enough
 
-module _ (n lost lit first count other others work marks forms correction : ℕ) where
+module _ (g : Given) (work : List ℕ) (l : HalfLists) where
+  abbrev Long : Type 0
+  Long = HalfRoom g.n (own_rows g) g.lost g.other g.others (record { marks = l.marks; forms = l.forms; work = work }) × (g.n ≤ length l.correction)
+
   -- What the test says, in the order of its parts.
-  pub enough_out : enough? n lost lit first count other others work marks forms correction ≡ true
-      → ((n ≤ 1024) × (count ≤ 512) × (others ≤ 512) × (first ≤ 512) × (other ≤ 512) × (10240 ≤ work))
-      × ((n ≤ lost) × (first + count ≤ lit) × (n ≤ marks) × (4 * n ≤ forms) × (n ≤ correction))
-  unfolding enough?
+  pub enough_out : enough_in? g (length work) l ≡ true → Long
+  unfolding enough_in?
   enough_out t =
-      let a = and_out _ (leb n correction) t in
-      let b = and_out _ (leb (4 * n) forms) a.0 in
-      let c = and_out _ (leb n marks) b.0 in
-      let d = and_out _ (leb (first + count) lit) c.0 in
-      let e = and_out _ (leb n lost) d.0 in
-      let f = and_out _ (leb 10240 work) e.0 in
-      let h = and_out _ (leb other 512) f.0 in
-      let i = and_out _ (leb first 512) h.0 in
-      let j = and_out _ (leb others 512) i.0 in
-      let k = and_out (leb n 1024) (leb count 512) j.0 in (
-        (leb-true n 1024 k.0, leb-true count 512 k.1, leb-true others 512 j.1, leb-true first 512 i.1, leb-true other 512 h.1, leb-true 10240 work f.1),
-        (leb-true n lost e.1, leb-true (first + count) lit d.1, leb-true n marks c.1, leb-true (4 * n) forms b.1, leb-true n correction a.1),
+      let a = and_out _ (leb g.n (length l.correction)) t in
+      let b = and_out _ (leb (4 * g.n) (length l.forms)) a.0 in
+      let c = and_out _ (leb g.n (length l.marks)) b.0 in
+      let d = and_out _ (leb (g.first + g.count) (length g.lit)) c.0 in
+      let e = and_out _ (leb g.n (length g.lost)) d.0 in
+      let f = and_out _ (leb 10240 (length work)) e.0 in
+      let h = and_out _ (leb g.other 512) f.0 in
+      let i = and_out _ (leb g.first 512) h.0 in
+      let j = and_out _ (leb g.others 512) i.0 in
+      let k = and_out (leb g.n 1024) (leb g.count 512) j.0 in (
+        record {
+          size = leb-true g.n 1024 k.0;
+          few = leb-true g.count 512 k.1;
+          few_others = leb-true g.others 512 j.1;
+          first = leb-true g.first 512 i.1;
+          other_first = leb-true g.other 512 h.1;
+          work = leb-true 10240 (length work) f.1;
+          losses = leb-true g.n (length g.lost) e.1;
+          read = leb-true (g.first + g.count) (length g.lit) d.1;
+          marks = leb-true g.n (length l.marks) c.1;
+          forms = leb-true (4 * g.n) (length l.forms) b.1;
+        },
+        leb-true g.n (length l.correction) a.1,
       )
 
-pub enough_is : (g : Given) (work : ℕ) (l : HalfLists) → enough_in? g work l
-    ≡ enough? g.n (length g.lost) (length g.lit) g.first g.count g.other g.others work (length l.marks) (length l.forms) (length l.correction)
-unfolding enough_in? enough?
-enough_is g work l = refl
+  -- What is told to be enough is.
+  pub long_enough : (told : Bool) → told ≡ enough_in? g (length work) l → not told ≡ false → Long
+  long_enough told tells e = enough_out (enough_told (enough_in? g (length work) l) told tells e)
 
 ----------------------------------------------------------------------
 -- The promise
 
--- Where it is told to be enough, the half is run.
-pub half_runs : (n : ℕ) (c : RowLists) (lost : List ℕ) (other others budget limit : ℕ) (enough told : Bool) → told ≡ enough → not told ≡ false → (old new : Working) (a : RunAnswer)
-    → HalfRan n c lost other others budget limit old new a → HalfRuns n c lost other others budget limit enough old new a
-half_runs n c lost other others budget limit enough told tells e old new a v = record { stays = v.stays; refused = λ i. never (enough_told enough told tells e) i; over = λ i. v.over }
+-- Nothing is written where a size is out of range or a list too short.
+pub decodes_refused : (g : Given) (work : List ℕ) (l : HalfLists) (told : Bool) → told ≡ enough_in? g (length work) l → not told ≡ true → Decodes g work work l l None
+decodes_refused g work l told tells e =
+    let no : enough_in? g (length work) l ≡ false = sym tells ∙ not_out told e in
+    record {
+      lengths = record { marks = refl; forms = refl; correction = refl };
+      past = record { marks = λ q i. refl; forms = λ q i. refl; correction = λ q i. refl };
+      work_long = refl;
+      refused = λ i. (refl, refl, refl);
+      answered = λ i. never i no;
+      decoded = λ i. never i no;
+      kept = λ i. never i no;
+    }
 
-module _ (g : Given) (work : List ℕ) (old : HalfLists) (mid : Working) (a : RunAnswer)
-    (v : HalfRuns g.n (own_rows g) g.lost g.other g.others g.budget g.limit
-    (enough? g.n (length g.lost) (length g.lit) g.first g.count g.other g.others (length work) (length old.marks) (length old.forms) (length old.correction))
-    (record { marks = old.marks; forms = old.forms; work = work }) mid a) where
-  -- It was run exactly where sizes are in range and lists long enough.
-  enough_not : a ≡ runs.Refused → enough_in? g (length work) old ≡ false
-  enough_not e = cases (enough_in? g (length work) old) (λ t. let o = v.over (sym (enough_is g (length work) old) ∙ t) in let z : ◌≡◌ {A = ℕ} 0 1 = cc in absurd (omega arith)) (λ f. f)
+module _ (g : Given) (work : List ℕ) (old : HalfLists) (mid : Working) (told : Bool) (tells : told ≡ enough_in? g (length work) old) (enough : not told ≡ false) (a : Option HalfReport)
+    (v : HalfRan g.n (own_rows g) g.lost g.other g.others g.budget g.limit (record { marks = old.marks; forms = old.forms; work = work }) mid a) where
+  is_enough : enough_in? g (length work) old ≡ true
+  is_enough = enough_told (enough_in? g (length work) old) told tells enough
 
-  enough_then : (r : HalfReport) → a ≡ Over r → enough_in? g (length work) old ≡ true
-  enough_then r e = cases (enough_in? g (length work) old) (λ t. t) (λ f. let o = v.refused (sym (enough_is g (length work) old) ∙ f) in let z : ◌≡◌ {A = ℕ} 0 1 = cc in absurd (omega arith))
+  -- A half that is run is told.
+  pub none_told : a ≡ None → ⊥
+  none_told e = let o = v.over in let z : ◌≡◌ {A = ℕ} 0 1 = cc in omega arith
 
-  pub room_then : (r : HalfReport) → a ≡ Over r → (g.n ≤ length mid.marks) × (4 * g.n ≤ length mid.forms) × (g.n ≤ length old.correction)
-  room_then r e = let f = (enough_out _ _ _ _ _ _ _ _ _ _ _ (sym (enough_is g (length work) old) ∙ enough_then r e)).1 in let k = v.stays in (omega arith, omega arith, f.4)
+  pub room_then : (g.n ≤ length mid.marks) × (4 * g.n ≤ length mid.forms) × (g.n ≤ length old.correction)
+  room_then = let f = enough_out g work old is_enough in let k = v.stays in (omega arith, omega arith, f.1)
 
-  pub decodes_refused : a ≡ runs.Refused → Decodes g work mid.work old (record { marks = mid.marks; forms = mid.forms; correction = old.correction }) Refused
-  decodes_refused e =
-      subst (λ (l : Working). Decodes g work l.work old (record { marks = l.marks; forms = l.forms; correction = old.correction }) Refused)
-      (sym (v.refused (sym (enough_is g (length work) old) ∙ enough_not e)).1)
-      (record {
-        lengths = record { marks = refl; forms = refl; correction = refl };
-        past = record { marks = λ q i. refl; forms = λ q i. refl; correction = λ q i. refl };
-        work_long = refl;
-        refused = λ i. (refl, refl, refl);
-        answered = λ i. never i (enough_not e);
-        decoded = λ i. never i (enough_not e);
-        kept = λ i. never i (enough_not e);
-      })
-
-  module _ (r : HalfReport) (told : a ≡ Over r) (new : HalfLists) (f : Finished g.n r.word (record { marks = mid.marks; forms = mid.forms; correction = old.correction }) new)
+  module _ (r : HalfReport) (is : a ≡ Some r) (new : HalfLists) (f : Finished g.n r.word (record { marks = mid.marks; forms = mid.forms; correction = old.correction }) new)
       (wide : (i : ℕ) → get_or new.forms i 0 < 2 ^ 64) where
     abbrev e : End
     e = decoded (half_in g.n (own_rows g) g.lost g.other g.others) g.budget g.limit
 
     ran : RowsObey g.n (own_rows g) g.other g.others → Ran g.n (own_rows g) mid r e
     ran obey =
-        let o = v.over (sym (enough_is g (length work) old) ∙ enough_then r told) in
+        let o = v.over in
         let same : o.0 ≡ r = cc in
         subst (λ (x : HalfReport). Ran g.n (own_rows g) mid x e) same (o.2 obey)
 
     past : Past g.n old new
     past = past_stays g.n (record { marks = old.marks; forms = old.forms; work = work }) old.correction mid r.word new v.stays f
 
-    pub decodes_done : Decodes g work mid.work old new (Decoded r)
+    pub decodes_done : Decodes g work mid.work old new (Some r)
     unfolding shown
     decodes_done =
         record {
@@ -194,8 +195,8 @@ module _ (g : Given) (work : List ℕ) (old : HalfLists) (mid : Working) (a : Ru
           };
           past = past;
           work_long = v.stays.work_long;
-          refused = λ i. never (enough_then r told) i;
+          refused = λ i. never is_enough i;
           answered = λ i j. let z : ◌≡◌ {A = ℕ} 0 1 = cc in omega arith;
-          decoded = λ i obey. let w = ran obey in (ap Decoded w.report, ended_shows g.n (own_rows g) mid old.correction new r e w f old past wide);
+          decoded = λ i obey. let w = ran obey in (ap Some w.report, ended_shows g.n (own_rows g) mid old.correction new r e w f old past wide);
           kept = λ i obey. ended_kept g.n (own_rows g) mid old.correction new r e (ran obey) f;
         }

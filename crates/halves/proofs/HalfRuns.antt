@@ -2,6 +2,7 @@
 use mathlib.Core.Path.{◌≡◌, refl, sym, ap, ap₂, ◌∙◌, subst}
 use mathlib.Core.Bool.{Bool, true, false, not, ◌&&◌, cond}
 use mathlib.Core.List.{List}
+use Rattle.std.specs.Prelude.{Option, Some}
 use Prim.Native.Nat.{ℕ, zero, suc, ◌+◌, ◌*◌, ◌≤◌}
 use native.Mathlib.Nat.{add-zero}
 use native.Mathlib.Omega.{arith}
@@ -23,6 +24,7 @@ use Rattle.machine.proofs.Demands.{end_from}
 use Rattle.machine.proofs.Trying.{try_law}
 use Rattle.lists.specs.Filled.{Filled}
 use Rattle.scans.specs.Rows.{RowLists, checks_from, row_checks, GoodRows}
+use Rattle.scans.specs.Half.{sized?}
 use Rattle.scans.specs.Scans.{count_marks}
 use Rattle.kept.specs.Kept.{Kept, RowsOn}
 use Rattle.filling.specs.Filling.{Fills}
@@ -30,18 +32,16 @@ use Rattle.filling.specs.Filling as fills
 use Rattle.starting.specs.Starting.{open_mark, fixed_in, Starts, Opens, Marks}
 use Rattle.starting.specs.Starting as starts
 use Rattle.starting.proofs.Marks.{listed_below, open_marks}
-use Rattle.turns.specs.declared.RunAnswer.{RunAnswer}
-use Rattle.turns.specs.declared.RunAnswer.TheVariants.{Over}
 use Rattle.turns.specs.Turns.{Working, Stays, is_guessed, run_from}
 use Rattle.turns.specs.Runs.{end_of, rest_of, Ran, Runs, GoesOn}
 use Rattle.turns.specs.Runs as runs
 use Rattle.turns.proofs.Stays.{stays_same, stays_on}
-use Rattle.turns.proofs.Marked.{counted_as}
+use Rattle.turns.proofs.Marked.{counted_as, enough_in}
 use Rattle.trying.specs.declared.TryAnswer.{TryAnswer}
 use Rattle.trying.specs.declared.TryAnswer.TheVariants as trying
 use Rattle.trying.specs.Turns.{Stuck, Reaches}
 use Rattle.trying.specs.Trying.{Given, Tries}
-use Rattle.halves.specs.Starts.{half_in, RowsObey, HalfRan}
+use Rattle.halves.specs.Starts.{half_in, RowsObey, HalfRoom, HalfRan}
 
 ----------------------------------------------------------------------
 -- The half's checks
@@ -94,7 +94,7 @@ module _ (n : ℕ) (c : RowLists) (lost : List ℕ) (other others : ℕ) (fixed 
       of true false = refl
       of false f = refl
 
-  ran_from : (budget limit : ℕ) (new : Working) (a : RunAnswer) (r : HalfReport) → Runs n c budget limit l new a → runs.enough_in? n c l ≡ true → a ≡ Over r
+  ran_from : (budget limit : ℕ) (new : Working) (a : Option HalfReport) (r : HalfReport) → Runs n c budget limit l new a → runs.enough? n c l ≡ true → a ≡ Some r
       → GoodRows n c → Kept (is_open (view n l.marks)) c l.work → RowsOn (is_open (view n l.marks)) c l.work
       → Ran n c new r (end_from (half_in n c lost other others) fixed budget limit)
   ran_from budget limit new a r v enough told good kept on =
@@ -106,25 +106,12 @@ module _ (n : ℕ) (c : RowLists) (lost : List ℕ) (other others : ℕ) (fixed 
 ----------------------------------------------------------------------
 -- Sizes in range and lists long enough
 
--- What the start and the turns of a half ask.
-abbrev Asked : ℕ → RowLists → List ℕ → ℕ → ℕ → Working → Type 0
-Asked n c lost other others l =
-    ((n ≤ 1024) × (c.count ≤ 512) × (others ≤ 512) × (c.first ≤ 512) × (other ≤ 512) × (10240 ≤ length l.work))
-    × ((n ≤ length lost) × (c.first + c.count ≤ length c.lit) × (n ≤ length l.marks) × (4 * n ≤ length l.forms))
-
 -- Sizes and lists that are enough for the decode are for its start.
 start_enough : (n lost lit first count other others work marks : ℕ) → n ≤ 1024 → count ≤ 512 → others ≤ 512 → first ≤ 512 → other ≤ 512 → 10240 ≤ work → n ≤ lost → first + count ≤ lit
     → n ≤ marks → starts.enough? n lost lit first count other others work marks ≡ true
 unfolding starts.enough?
 start_enough n lost lit first count other others work marks a b d e f g h i j =
     rw (le-leb n 1024 a, le-leb count 512 b, le-leb others 512 d, le-leb first 512 e, le-leb other 512 f, le-leb 10240 work g, le-leb n lost h, le-leb (first + count) lit i, le-leb n marks j)
-
--- And its turns.
-turns_enough : (n lit first count work marks forms : ℕ) → n ≤ 1024 → count ≤ 512 → first ≤ 512 → 10240 ≤ work → first + count ≤ lit
-    → n ≤ marks → 4 * n ≤ forms → runs.enough? n lit first count work marks forms ≡ true
-unfolding runs.enough?
-turns_enough n lit first count work marks forms a b d f g h i =
-    and_in (and_in (and_in (and_in (and_in (and_in (le-leb _ _ a) (le-leb _ _ b)) (le-leb _ _ d)) (le-leb _ _ f)) (le-leb _ _ g)) (le-leb _ _ h)) (le-leb _ _ i)
 
 -- A start writes marks and work list, and no form.
 start_stays : (n : ℕ) (l : Working) (work' marks' : List ℕ) → length work' ≡ length l.work → length marks' ≡ length l.marks → ((q : ℕ) → n ≤ q → get_or marks' q 0 ≡ get_or l.marks q 0)
@@ -140,9 +127,9 @@ search_enough n lost other others work marks a b d e f g =
 
 -- And what is kept of the rows.
 fill_enough : (n : ℕ) (c : RowLists) (work : ℕ) → n ≤ 1024 → c.count ≤ 512 → c.first ≤ 512 → 10240 ≤ work → c.first + c.count ≤ length c.lit → fills.enough? n c work ≡ true
-unfolding fills.enough?
+unfolding fills.enough? sized?
 fill_enough n c work a b d e f =
-    rw (le-leb n 1024 a, le-leb c.count 512 b, le-leb (c.first + c.count) 1024 (omega arith), le-leb 9216 work (omega arith), le-leb (c.first + c.count) (length c.lit) f)
+    rw (le-leb n 1024 a, le-leb c.count 512 b, le-leb (c.first + c.count) 1024 (omega arith), le-leb (c.first + c.count) (length c.lit) f, le-leb 9216 work (omega arith))
 
 ----------------------------------------------------------------------
 -- What the sizes allow, whatever the lists hold
@@ -156,10 +143,13 @@ obeys n c lost other others obey =
       commute = obey.commute;
     }
 
-module _ (n : ℕ) (c : RowLists) (lost : List ℕ) (other others : ℕ) (old : Working) (asked : Asked n c lost other others old) where
+module _ (n : ℕ) (c : RowLists) (lost : List ℕ) (other others : ℕ) (old : Working) (asked : HalfRoom n c lost other others old) where
   -- Lists that keep their lengths are still enough.
-  can_turn : (l : Working) → Stays n old l → runs.enough_in? n c l ≡ true
-  can_turn l k = turns_enough _ _ _ _ _ _ _ (omega arith) (omega arith) (omega arith) (omega arith) (omega arith) (omega arith) (omega arith)
+  can_turn : (l : Working) → Stays n old l → runs.enough? n c l ≡ true
+  can_turn l k =
+      enough_in n c l
+      (record { size = asked.size; marks = omega arith; forms = omega arith; work = omega arith; few = asked.few; read = asked.read; last = omega arith })
+      asked.first
 
   can_start : (l : Working) → Stays n old l → starts.enough_in? n c lost other others l.work l.marks ≡ true
   can_start l k = start_enough _ _ _ _ _ _ _ _ _ (omega arith) (omega arith) (omega arith) (omega arith) (omega arith) (omega arith) (omega arith) (omega arith) (omega arith)
@@ -173,9 +163,9 @@ module _ (n : ℕ) (c : RowLists) (lost : List ℕ) (other others : ℕ) (old : 
 ----------------------------------------------------------------------
 -- The search, and the turns after it
 
-module _ (n : ℕ) (c : RowLists) (lost : List ℕ) (other others budget limit : ℕ) (old : Working) (asked : Asked n c lost other others old) (work₁ marks₁ : List ℕ)
+module _ (n : ℕ) (c : RowLists) (lost : List ℕ) (other others budget limit : ℕ) (old : Working) (asked : HalfRoom n c lost other others old) (work₁ marks₁ : List ℕ)
     (marks : Marks n c.flat c.ends lost other others old.work work₁ old.marks marks₁) (fixed : ℕ) (counted : fixed ≡ count_marks n marks₁ 1) (mid : Working) (a : TryAnswer)
-    (try : Tries n c.ends c.lit c.first c.count limit fixed (record { marks = marks₁; forms = old.forms; work = work₁ }) mid a) where
+    (try : Tries n c limit fixed (record { marks = marks₁; forms = old.forms; work = work₁ }) mid a) where
   abbrev begun : Working
   begun = record { marks = marks₁; forms = old.forms; work = work₁ }
 
@@ -206,11 +196,11 @@ module _ (n : ℕ) (c : RowLists) (lost : List ℕ) (other others budget limit :
     ends = sym (end_is n c lost other others (fixed_in n c lost other others) begun marked budget limit)
 
   -- The turns without a guess are the whole half.
-  pub searched_over : (r : HalfReport) → a ≡ trying.Over r → HalfRan n c lost other others budget limit old mid (Over r)
+  pub searched_over : (r : HalfReport) → a ≡ trying.Over r → HalfRan n c lost other others budget limit old mid (Some r)
   searched_over r told = record { stays = mid_stays; over = (r, refl, λ obey. subst (Ran n c mid r) (ends obey) (((reaches obey).over r told).1 budget)) }
 
   -- What is kept of the rows is made for the turns that follow.
-  module _ (work₂ : List ℕ) (filled : Fills n c mid.marks mid.work work₂) (new : Working) (b : RunAnswer) where
+  module _ (work₂ : List ℕ) (filled : Fills n c mid.marks mid.work work₂) (new : Working) (b : Option HalfReport) where
     abbrev ready : Working
     ready = record { marks = mid.marks; forms = mid.forms; work = work₂ }
 
@@ -241,7 +231,7 @@ module _ (n : ℕ) (c : RowLists) (lost : List ℕ) (other others budget limit :
           );
         }
       where
-        enough : (runs.enough_in? n c ready && leb made limit) ≡ true
+        enough : (runs.enough? n c ready && leb made limit) ≡ true
         enough = and_in (can_turn n c lost other others old asked ready ready_stays) (le-leb made limit (try.within made told))
 
         rest : RowsObey n c other others → Stuck n c limit made mid (λ budget. end_of n c budget limit begun) → rest_of n c budget limit made ready ≡ end_of n c budget limit begun
@@ -261,7 +251,7 @@ module _ (n : ℕ) (c : RowLists) (lost : List ℕ) (other others budget limit :
           );
         }
       where
-        enough : runs.enough_in? n c ready ≡ true
+        enough : runs.enough? n c ready ≡ true
         enough = can_turn n c lost other others old asked ready ready_stays
 
         as_begun : RowsObey n c other others → view n mid.marks ≡ start_mark (listed n lost) (fixed_in n c lost other others)
@@ -272,14 +262,14 @@ module _ (n : ℕ) (c : RowLists) (lost : List ℕ) (other others budget limit :
 -- The try, and the half
 
 -- A try as if no qubit were fixed.
-module _ (n : ℕ) (c : RowLists) (lost : List ℕ) (other others limit : ℕ) (old : Working) (asked : Asked n c lost other others old) (marks₁ : List ℕ)
+module _ (n : ℕ) (c : RowLists) (lost : List ℕ) (other others limit : ℕ) (old : Working) (asked : HalfRoom n c lost other others old) (marks₁ : List ℕ)
     (opens : Opens n lost old.marks marks₁) (mid : Working) (a : TryAnswer)
-    (try : Tries n c.ends c.lit c.first c.count limit 0 (record { marks = marks₁; forms = old.forms; work = old.work }) mid a) where
+    (try : Tries n c limit 0 (record { marks = marks₁; forms = old.forms; work = old.work }) mid a) where
   abbrev first : Working
   first = record { marks = marks₁; forms = old.forms; work = old.work }
 
   opened : Filled (open_mark n lost) n old.marks marks₁
-  opened = opens.opened (and_in (le-leb n (length lost) asked.1.0) (le-leb n (length old.marks) asked.1.2))
+  opened = opens.opened (and_in (le-leb n (length lost) asked.losses) (le-leb n (length old.marks) asked.marks))
 
   first_stays : Stays n old first
   first_stays = start_stays n old old.work marks₁ refl opened.long opened.rest
@@ -301,7 +291,7 @@ module _ (n : ℕ) (c : RowLists) (lost : List ℕ) (other others limit : ℕ) (
       of false = refl
 
   -- A try that is over is the half's end.
-  pub half_tried : (budget : ℕ) (r : HalfReport) → a ≡ trying.Over r → HalfRan n c lost other others budget limit old mid (Over r)
+  pub half_tried : (budget : ℕ) (r : HalfReport) → a ≡ trying.Over r → HalfRan n c lost other others budget limit old mid (Some r)
   unfolding TryLaw tried
   half_tried budget r told =
       record { stays = tried_stays; over = (r, refl, λ obey. subst (Ran n c mid r) (sym (try_law h (obeys n c lost other others obey) budget limit (over obey))) (ran obey)) }
@@ -317,11 +307,11 @@ module _ (n : ℕ) (c : RowLists) (lost : List ℕ) (other others limit : ℕ) (
       over obey = ap finished? (sym (ap (λ (x : HalfReport). x.word) (ran obey).report) ∙ ((try.tells c.flat obey.own none_fixed).over r told).0)
 
   -- Where it left a qubit the search is made.
-  pub half_searched : (budget : ℕ) (new : Working) (b : RunAnswer) → HalfRan n c lost other others budget limit mid new b → HalfRan n c lost other others budget limit old new b
+  pub half_searched : (budget : ℕ) (new : Working) (b : Option HalfReport) → HalfRan n c lost other others budget limit mid new b → HalfRan n c lost other others budget limit old new b
   half_searched budget new b v = record { stays = stays_on n old mid new tried_stays v.stays; over = v.over }
 
   -- Else the half is started anew.
-  pub half_again : (budget : ℕ) (work₂ marks₂ : List ℕ) (new : Working) (b : RunAnswer) → Starts n c lost other others mid.work work₂ mid.marks marks₂
+  pub half_again : (budget : ℕ) (work₂ marks₂ : List ℕ) (new : Working) (b : Option HalfReport) → Starts n c lost other others mid.work work₂ mid.marks marks₂
       → Runs n c budget limit (record { marks = marks₂; forms = mid.forms; work = work₂ }) new b → HalfRan n c lost other others budget limit old new b
   unfolding decoded
   half_again budget work₂ marks₂ new b starts v =
@@ -342,5 +332,5 @@ module _ (n : ℕ) (c : RowLists) (lost : List ℕ) (other others limit : ℕ) (
       anew_stays : Stays n old anew
       anew_stays = stays_on n old mid anew tried_stays (start_stays n mid work₂ marks₂ starts.work_long starts.marks_long starts.rest)
 
-      enough : runs.enough_in? n c anew ≡ true
+      enough : runs.enough? n c anew ≡ true
       enough = can_turn n c lost other others old asked anew anew_stays

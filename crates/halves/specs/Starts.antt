@@ -1,19 +1,17 @@
 -- What the decode of a half does to the lists.
 --   half_in      the half whose rows and readings, lost qubits and other kind's rows the lists hold
 --   RowsObey    the rows obey document 01
+--   working_of   marks, forms and work list together
+--   HalfRoom    sizes in range and lists long enough for the start and the turns of a half
 --   HalfRan     the start and the turns of a half
---   enough?     whether sizes are in range and lists long enough for the decode
---   HalfRuns    the start and the turns, where it is told to be enough; otherwise nothing is written
 --   Finished    what the half leaves in its lists, by its word
-use Rattle.std.specs.Prelude.{◌≡◌, Bool, ◌&&◌, cond, List, ℕ, ◌+◌, ◌*◌, ◌%◌, leb, get_or}
+use Rattle.std.specs.Prelude.{◌≡◌, cond, List, ℕ, ◌+◌, ◌*◌, ◌%◌, ◌≤◌, length, get_or, Option, Some}
 use Rattle.binary.specs.Meaning.{All, Commute}
 use Rattle.code.specs.Lists.{rows_from}
 use Rattle.code.specs.Tests.{Ascending}
 use Rattle.scans.specs.Rows.{RowLists, GoodRows}
-use Rattle.turns.specs.declared.RunAnswer.{RunAnswer}
-use Rattle.turns.specs.declared.RunAnswer.TheVariants.{Over}
 use Rattle.turns.specs.Turns.{Working, Stays}
-use Rattle.turns.specs.Runs.{Ran, Answers}
+use Rattle.turns.specs.Runs.{Ran}
 use Rattle.machine.specs.declared.Word.{Word}
 use Rattle.machine.specs.declared.HalfReport.{HalfReport}
 use Rattle.machine.specs.Machine.{Half, decoded}
@@ -36,19 +34,25 @@ pub record RowsObey (n : ℕ) (c : RowLists) (other others : ℕ) : Type 0 where
 ----------------------------------------------------------------------
 -- Its start and its turns
 
+abbrev pub working_of : List ℕ → List ℕ → List ℕ → Working
+working_of marks forms work = record { marks = marks; forms = forms; work = work }
+
+pub record HalfRoom (n : ℕ) (c : RowLists) (lost : List ℕ) (other others : ℕ) (l : Working) : Type 0 where
+  pub size : n ≤ 1024
+  pub few : c.count ≤ 512
+  pub few_others : others ≤ 512
+  pub first : c.first ≤ 512
+  pub other_first : other ≤ 512
+  pub work : 10240 ≤ length l.work
+  pub losses : n ≤ length lost
+  pub read : c.first + c.count ≤ length c.lit
+  pub marks : n ≤ length l.marks
+  pub forms : 4 * n ≤ length l.forms
+
 -- Of rows that obey, the end is the machine's.
-pub record HalfRan (n : ℕ) (c : RowLists) (lost : List ℕ) (other others budget limit : ℕ) (old new : Working) (a : RunAnswer) : Type 0 where
+pub record HalfRan (n : ℕ) (c : RowLists) (lost : List ℕ) (other others budget limit : ℕ) (old new : Working) (a : Option HalfReport) : Type 0 where
   pub stays : Stays n old new
-  pub over : (r : HalfReport) × (a ≡ Over r) × (RowsObey n c other others → Ran n c new r (decoded (half_in n c lost other others) budget limit))
-
--- Sizes, and the lengths of the lists.
-unfoldable pub enough? : ℕ → ℕ → ℕ → ℕ → ℕ → ℕ → ℕ → ℕ → ℕ → ℕ → ℕ → Bool
-enough? n lost lit first count other others work marks forms correction =
-    leb n 1024 && leb count 512 && leb others 512 && leb first 512 && leb other 512
-    && leb 10240 work && leb n lost && leb (first + count) lit && leb n marks && leb (4 * n) forms && leb n correction
-
-abbrev pub HalfRuns : ℕ → RowLists → List ℕ → ℕ → ℕ → ℕ → ℕ → Bool → Working → Working → RunAnswer → Type 0
-HalfRuns n c lost other others budget limit enough = Answers n c enough (RowsObey n c other others) (decoded (half_in n c lost other others) budget limit)
+  pub over : (r : HalfReport) × (a ≡ Some r) × (RowsObey n c other others → Ran n c new r (decoded (half_in n c lost other others) budget limit))
 
 ----------------------------------------------------------------------
 -- What a half leaves

@@ -1,47 +1,49 @@
 // The decode of a half of a shot.
 #![tactic(auto)]
 
-ghost use Rattle.halves.specs.Decode.{Decodes};
+ghost use Rattle.machine.specs.Lent.{half_lists, SameHalf};
+ghost use Rattle.halves.specs.Decode.{given, Decodes};
 
 mod decode;
 mod fills;
 
 use code::Rows;
-use machine::HalfReport;
-use turns::RunAnswer;
+use machine::{HalfReport, LentHalf};
+use scans::HalfRows;
 
-// The answer to the decode of a half.
-#[derive(Clone, Copy)]
-pub enum HalfAnswer {
-    Refused,
-    Decoded(HalfReport),
-}
-
-// The decode of one half, of its own rows and the other kind's. The work list is left with what is kept of its own rows.
+// The decode of one half, of its own rows and the other kind's; None, and nothing written, where a size is out of range or a list too short. The work list is left with
+// what is kept of its own rows.
 pub fn decode_half(
-    n: u16,
-    flat: &[u16],
-    ends: &[u16],
+    half: &HalfRows<'_>,
     lost: &[u8],
-    lit: &[u8],
-    own: Rows,
     others: Rows,
     budget: u8,
     limit: u16,
     work: &mut [u64],
-    marks: &mut [u8],
-    forms: &mut [u64],
-    correction: &mut [u8],
-) -> HalfAnswer
-    ensures { Decodes (record { n = n; flat = flat.now; ends = ends.now; lost = lost.now; lit = lit.now; first = own.first.0; count = own.count; other = others.first.0; others = others.count; budget = budget; limit = limit }) work.old work.new (record { marks = marks.entry.now; forms = forms.old; correction = correction.old }) (record { marks = marks.exit.now; forms = forms.new; correction = correction.new }) result }
+    lists: &mut LentHalf<'_>,
+) -> Option<HalfReport>
+    ensures same { SameHalf lists.old lists.new }
+    ensures decodes { Decodes (given half.now lost.now others budget limit) work.old work.new (half_lists lists.old) (half_lists lists.new) result }
 {
-    let ran = decode::run_half(
-        n, flat, ends, lost, lit, own, others, budget, limit, work, marks, forms, correction,
+    if !decode::is_enough(half, lost, others, work, lists) {
+        return None;
+    }
+    let told = decode::run_half(
+        half,
+        lost,
+        others,
+        budget,
+        limit,
+        work,
+        lists.marks,
+        lists.forms,
+    )?;
+    decode::finish(
+        half.n as usize,
+        told.word,
+        lists.marks,
+        lists.forms,
+        lists.correction,
     );
-    let RunAnswer::Over(told) = ran else {
-        return HalfAnswer::Refused;
-    };
-    let word = told.word;
-    decode::finish(n as usize, word, marks, forms, correction);
-    HalfAnswer::Decoded(told)
+    Some(told)
 }

@@ -1,17 +1,25 @@
 -- The list after a row: turns of the loops that write it. Assumes nothing.
 use mathlib.Core.Path.{◌≡◌, refl, sym, ap, ◌∙◌}
 use mathlib.Core.Bool.{cond}
+use mathlib.Core.Logic.{◌⊎◌}
 use mathlib.Core.List.{List, [], ◌∷◌}
-use Prim.Native.Nat.{ℕ, zero, suc, ◌+◌, ◌≤◌, ◌<◌}
-use native.Mathlib.Nat.{le_antisymm}
+use Prim.Native.Nat.{ℕ, zero, suc, ◌+◌, ◌-◌, ◌≤◌, ◌<◌}
+use native.Mathlib.Nat.{sub-zero}
+use native.Mathlib.Omega.{arith}
 use native.Mathlib.Numerals.{add-one}
 use borrow.Author.Tests.{lt-ltb, le-ltb, le-leb, lt-leb, eq-eqb, ne_eqb}
 use lib.Dec.{eqb, leb, ltb}
-use lib.ListN.{length, get_or, set, drop, length-set, drop_of_length-le}
+use lib.ListN.{length, get_or, set, take, drop, length-drop, length-set, drop_of_length-le}
+use lib.Seq.{drop-cons, take-take, length-take-le}
+use Rattle.std.proofs.Common.{Bor}
+use Rattle.std.specs.List.{slice_range}
+use Rattle.std.specs.Option.{MatchOption, IfSome}
+use Rattle.std.specs.declared.option.Option.{Option}
+use Rattle.std.specs.declared.option.Option.TheVariants.{None, Some}
 use Rattle.binary.specs.Meaning.{Row}
 use Rattle.binary.proofs.Bits.{bit}
 use Rattle.code.proofs.Turns.{drop_turn}
-use Rattle.incidence.specs.Incidence.{slot, number_on, note_on, note_all, emptied, noted}
+use Rattle.incidence.specs.Incidence.{slot, number_on, rows_on, note_on, note_all, emptied, noted}
 
 ----------------------------------------------------------------------
 -- The ways through one qubit
@@ -55,8 +63,35 @@ pub empty_turn : (old l : List ℕ) (q : ℕ) → l ≡ emptied q old → set l 
 unfolding emptied
 empty_turn old l q e = rw (e, add-one q)
 
-pub empty_done : (old l : List ℕ) (q n : ℕ) → q ≤ n → n ≤ q → l ≡ emptied q old → l ≡ emptied n old
-empty_done old l q n h k e = e ∙ ap (λ (m : ℕ). emptied m old) (le_antisymm h k)
+----------------------------------------------------------------------
+-- What is read of the rows on a qubit
+
+module _ (l : List ℕ) (q number : ℕ) (elements rows : List ℕ) (long : slot q + 15 ≤ length l) (is : elements ≡ slice_range l (slot q) (slot q + 15))
+    (parts : elements ≡ number ∷ rows) where
+  both : number ∷ rows ≡ number_on l q ∷ take 14 (drop (suc (slot q)) l)
+  both =
+      let many : slot q + 15 - slot q ≡ 15 = omega arith in
+      let h : slot q < length l = omega arith in sym parts ∙ is ∙ rw (many, drop-cons l (slot q) 0)
+
+  pub number_read : number ≡ number_on l q
+  number_read = let e = both in cc e
+
+  pub rows_read : number ≤ 14 → slice_range rows 0 number ≡ rows_on l q
+  unfolding rows_on
+  rows_read few =
+      let e = both in
+      let tail : rows ≡ take 14 (drop (suc (slot q)) l) = cc e in
+      rw (sub-zero, tail, take-take number 14 (drop (suc (slot q)) l) few, number_read, add-one (slot q))
+
+  pub on_read : (o : Option (Bor (List ℕ)))
+      → MatchOption o ((number < 0) ⊎ (length rows < number)) (λ on. (0 ≤ number) × (number ≤ length rows) × (on.now ≡ slice_range rows 0 number) × (length on.now + 0 ≡ number))
+      → IfSome o (λ on. (slot q + 15 ≤ length l) × (number_on l q ≤ 14) × (on.now ≡ rows_on l q))
+  on_read None m = tt
+  on_read (Some on) m =
+      let e = both in
+      let tail : rows ≡ take 14 (drop (suc (slot q)) l) = cc e in
+      let few : number ≤ 14 = omega (arith, m.1, ap length tail, length-take-le 14 (drop (suc (slot q)) l) (omega (arith, length-drop (suc (slot q)) l))) in
+      (long, omega (arith, number_read, few), m.2 ∙ rows_read few)
 
 ----------------------------------------------------------------------
 -- As many elements as before
@@ -75,15 +110,14 @@ emptied_long (suc n) l = length-set (emptied n l) (slot n) 0 ∙ emptied_long n 
 -- The first row, and any
 
 module _ (n i : ℕ) (l : List ℕ) where
-  pub begin_first : (l' : List ℕ) → l' ≡ emptied n l → i ≡ 0 → l' ≡ cond (eqb i 0) (emptied n l) l
-  begin_first l' e h = e ∙ rw (eq-eqb i 0 h)
+  module _ (row : Row) (l' : List ℕ) where
+    pub noted_first : i ≡ 0 → (mid : List ℕ) → mid ≡ emptied n l → l' ≡ note_all i row mid → l' ≡ noted n i row l
+    unfolding noted
+    noted_first h mid e f = f ∙ ap (note_all i row) (e ∙ rw (eq-eqb i 0 h))
 
-  pub begin_later : (i ≡ 0 → ⊥) → l ≡ cond (eqb i 0) (emptied n l) l
-  begin_later h = rw (ne_eqb i 0 h)
-
-  pub row_noted : (row : Row) (mid l' : List ℕ) → mid ≡ cond (eqb i 0) (emptied n l) l → l' ≡ note_all i row mid → l' ≡ noted n i row l
-  unfolding noted
-  row_noted row mid l' e f = f ∙ ap (note_all i row) e
+    pub noted_later : (i ≡ 0 → ⊥) → l' ≡ note_all i row l → l' ≡ noted n i row l
+    unfolding noted
+    noted_later h f = f ∙ ap (note_all i row) (rw (ne_eqb i 0 h))
 
   pub noted_long : (row : Row) → length (noted n i row l) ≡ length l
   unfolding noted

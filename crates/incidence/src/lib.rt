@@ -1,10 +1,10 @@
 // The rows on each qubit, kept with the code: 15 elements for each qubit, behind the ends of the rows.
 #![tactic(auto)]
 
-ghost use Rattle.std.specs.Prelude.{◌≡◌, cond, eqb, set};
-ghost use Rattle.incidence.specs.Incidence.{note_on, note_all, emptied, noted};
+ghost use Rattle.std.specs.Prelude.{◌≡◌, ◌+◌, ◌≤◌, ◌<◌, ◌⊎◌, length, IfSome, IfNone};
+ghost use Rattle.incidence.specs.Incidence.{slot, number_on, rows_on, note_on, note_all, emptied, noted};
 
-use code::Row;
+use code::{Qubit, Row};
 
 // Where the elements of qubit 0 begin, and how many each qubit has: how many rows are on it, then up to 14 rows.
 pub const FIRST: usize = 1024;
@@ -12,67 +12,59 @@ pub const FIRST: usize = 1024;
 pub const EACH: usize = 15;
 
 // Row r is put to the rows on qubit q; where it has no place, the number says so.
-fn note_on(list: &mut [u16], q: u16, r: Row)
-    ensures { list.new ≡ note_on r.0 list.old q }
+fn note_on(list: &mut [u16], q: Qubit, r: Row)
+    ensures { list.new ≡ note_on r.0 list.old q.0 }
 {
-    let at = FIRST + EACH * (q as usize);
+    let at = FIRST + EACH * (q.0 as usize);
     if list.len() < at + EACH {
         return;
     }
-    let number = list[at] as usize;
+    let number = list[at];
     if number < 14 {
-        list[at + 1 + number] = r.0;
-        list[at] = (number + 1) as u16;
-        return;
+        list[at + 1 + number as usize] = r.0;
+        list[at] = number + 1;
+    } else {
+        list[at] = 15;
     }
-    list[at] = 15;
 }
 
 // Row r is put to each of its qubits.
 fn note_all(list: &mut [u16], r: Row, qubits: &[u16])
     ensures { list.new ≡ note_all r.0 qubits.now list.old }
 {
-    let mut i: usize = 0;
-    while i < qubits.len() {
-        note_on(list, qubits[i], r);
-        i += 1;
+    for &q in qubits {
+        note_on(list, Qubit(q), r);
     }
 }
 
-// An element becomes 0; past the list there is none.
-fn put_none(list: &mut [u16], at: usize)
-    ensures { list.new ≡ set list.old at 0 }
-{
-    if at < list.len() {
-        list[at] = 0;
-    }
-}
-
-// No row is on any of the first n qubits.
+// No row is on any of the first n qubits; past the list there is no element.
 fn empty(list: &mut [u16], n: u16)
     ensures { list.new ≡ emptied n list.old }
 {
-    let size = n as usize;
-    let mut q: usize = 0;
-    while q < size {
-        put_none(list, FIRST + EACH * q);
-        q += 1;
+    for q in 0..n as usize {
+        let at = FIRST + EACH * q;
+        if at < list.len() {
+            list[at] = 0;
+        }
     }
 }
 
-// The first row of a code finds no row on any of its qubits.
-fn begin(list: &mut [u16], n: u16, r: Row)
-    ensures { list.new ≡ cond (eqb r.0 0) (emptied n list.old) list.old }
+// Row r of a code of n qubits is put to the rows on its qubits. The first row of a code finds no row on any qubit.
+pub fn note_row(list: &mut [u16], n: u16, r: Row, qubits: &[u16])
+    ensures { list.new ≡ noted n r.0 qubits.now list.old }
 {
     if r.0 == 0 {
         empty(list, n);
     }
+    note_all(list, r, qubits);
 }
 
-// Row r of a code of n qubits is put to the rows on its qubits.
-pub fn note_row(list: &mut [u16], n: u16, r: Row, qubits: &[u16])
-    ensures { list.new ≡ noted n r.0 qubits.now list.old }
+// The rows on qubit q, if the list has the qubit and a place for each of them.
+pub fn rows_on(list: &[u16], q: Qubit) -> Option<&[u16]>
+    ensures listed { IfSome result (λ on. (slot q.0 + 15 ≤ length list.now) × (number_on list.now q.0 ≤ 14) × (on.now ≡ rows_on list.now q.0)) }
+    ensures unlisted { IfNone result ((length list.now < slot q.0 + 15) ⊎ (14 < number_on list.now q.0)) }
 {
-    begin(list, n, r);
-    note_all(list, r, qubits);
+    let at = FIRST + EACH * (q.0 as usize);
+    let (number, rows) = list.get(at..at + EACH)?.split_first()?;
+    rows.get(..*number as usize)
 }

@@ -2,47 +2,28 @@
 #![tactic(auto)]
 
 ghost use Rattle.std.specs.Prelude.{◌≡◌, ◌-◌, ◌≤◌, length, take};
-ghost use Rattle.input.specs.Reading.{Attempt, Refills, Keeps};
+ghost use Rattle.input.specs.Reading.{is_again, Attempt, Refills, Keeps};
 
 use std::io::Read;
 
-// What one read gave. again: it gave nothing and is to be tried again. error: errno where it failed, and 0 else.
-#[derive(Clone, Copy)]
-struct Got {
-    count: usize,
-    again: bool,
-    error: i32,
-}
-
-// How many bytes there are then. ended: no more come. error: errno where that is since a read failed, and 0 else. reads: how many were made.
+// How many bytes there are then. ended: no more come. error: errno where that is since a read failed. reads: how many were made.
 #[derive(Clone, Copy)]
 pub struct Refilled {
     pub end: usize,
     pub ended: bool,
-    pub error: i32,
+    pub error: Option<i32>,
     pub reads: u64,
 }
 
-// One read to the block behind the `held` bytes.
-fn read_once<R: Read>(from: &mut R, block: &mut [u8], held: usize) -> Got
+// One read to the block behind the `held` bytes: how many it gave, or errno.
+fn read_once<R: Read>(from: &mut R, block: &mut [u8], held: usize) -> Result<usize, i32>
     requires { held ≤ length block.old }
-    ensures { Attempt (length block.old - held) result × (take held block.new ≡ take held block.old) }
+    ensures gives { Attempt (length block.old - held) result }
+    ensures stays { take held block.new ≡ take held block.old }
 {
-    let end = block.len();
-    match from.read(&mut block[held..end]) {
-        Ok(count) => Got {
-            count: count,
-            again: false,
-            error: 0,
-        },
-        Err(error) => {
-            let number = output::error_number(&error);
-            Got {
-                count: 0,
-                again: output::try_again(number),
-                error: number,
-            }
-        }
+    match from.read(&mut block[held..]) {
+        Ok(count) => Ok(count),
+        Err(error) => Err(output::error_number(&error)),
     }
 }
 
@@ -55,39 +36,39 @@ pub fn refill<R: Read>(from: &mut R, block: &mut [u8], held: usize) -> Refilled
         return Refilled {
             end: held,
             ended: true,
-            error: 0,
+            error: None,
             reads: 0,
         };
     }
     let mut got = read_once(from, block, held);
     let mut reads: u64 = 1;
-    while reads < u64::MAX && got.again {
+    while reads < u64::MAX && is_again(got) {
         got = read_once(from, block, held);
         reads += 1;
     }
+    let count = got.unwrap_or(0);
     Refilled {
-        end: held + got.count,
-        ended: got.count == 0,
-        error: got.error,
-        reads: reads,
+        end: held + count,
+        ended: count == 0,
+        error: got.err(),
+        reads,
     }
+}
+
+// Whether a read is to be tried again.
+fn is_again(got: Result<usize, i32>) -> bool
+    ensures { result ≡ is_again got }
+{
+    matches!(got, Err(error) if output::try_again(error))
 }
 
 // Moves the bytes from `from` up to `end` to the front; answers how many they are.
 pub fn keep(block: &mut [u8], from: usize, end: usize) -> usize
     ensures { Keeps block.old block.new from end result }
 {
-    if block.len() < end {
+    if block.len() < end || end < from {
         return 0;
     }
-    if end < from {
-        return 0;
-    }
-    let most = end - from;
-    let mut i: usize = 0;
-    while i < most {
-        block[i] = block[from + i];
-        i += 1;
-    }
-    i
+    block.copy_within(from..end, 0);
+    end - from
 }

@@ -13,6 +13,7 @@ use lib.ListN.{length, get_or, set, length-set}
 use lib.Pow.{pow_mono}
 use lib.Seq.{get_or-set_same, get_or-set_other}
 use mir.Val.{bool_byte}
+use Rattle.std.specs.Prelude.{min}
 use Rattle.binary.specs.Bits.{count, tally}
 use Rattle.binary.specs.Words
 use Rattle.binary.specs.Words.{number_of}
@@ -71,42 +72,40 @@ tally_split a (suc m) f = let rest = tally_split a m f in rw (add-suc a m) (bit 
 ----------------------------------------------------------------------
 -- Word by word
 
--- The rows below `from` are found, in the first k words of the set.
-pub record Finding (all : ℕ) (work₀ : List ℕ) (k from total : ℕ) (work : List ℕ) : Type 0 where
+-- The rows of the first k words of the set are found.
+pub record Finding (all : ℕ) (work₀ : List ℕ) (k total : ℕ) (work : List ℕ) : Type 0 where
   pub long : length work ≡ length work₀
   pub beside : (j : ℕ) → (j < 8192) ⊎ (8200 ≤ j) → get_or work j 0 ≡ get_or work₀ j 0
-  pub within : from ≤ all
-  pub behind : from ≤ 64 * k
-  pub next : from < all → from ≡ 64 * k
-  pub found : (i : ℕ) → i < from → in_set work 1024 i ≡ single? work₀ i
-  pub counted : total ≡ tally from (single? work₀)
+  pub found : (i : ℕ) → i < min all (64 * k) → in_set work 1024 i ≡ single? work₀ i
+  pub counted : total ≡ tally (min all (64 * k)) (single? work₀)
 
--- Where the list is short, or the rows are too many.
-pub finds_not : (all : ℕ) (work₀ : List ℕ) → (9216 ≤ length work₀ → all ≤ 512 → ⊥) → Finds all work₀ work₀
-finds_not all work₀ f = record { long = refl; below = λ j h. refl; beyond = λ j h. refl; tallied = λ a b. absurd (f a b); refused = λ g. refl }
-
-pub finding_few : (all : ℕ) (work₀ : List ℕ) (k from total : ℕ) (work : List ℕ) → Finding all work₀ k from total work → total ≤ from
-finding_few all work₀ k from total work s = omega (arith, s.counted, tally_few from (single? work₀))
+pub finding_few : (all : ℕ) (work₀ : List ℕ) (k total : ℕ) (work : List ℕ) → Finding all work₀ k total work → total ≤ 64 * k
+finding_few all work₀ k total work s = omega (arith, s.counted, tally_few (min all (64 * k)) (single? work₀))
 
 module _ (all : ℕ) (work₀ : List ℕ) (few : all ≤ 512) (room : 9216 ≤ length work₀) where
-  pub finding_none : Finding all work₀ 0 0 0 work₀
-  finding_none = record { long = refl; beside = λ j h. refl; within = omega arith; behind = omega arith; next = λ h. refl; found = λ i h. absurd (omega arith); counted = refl }
+  pub finding_none : Finding all work₀ 0 0 work₀
+  finding_none =
+      let none : min all (64 * 0) ≡ 0 = omega arith in
+      record { long = refl; beside = λ j h. refl; found = λ i h. absurd (omega arith); counted = rw none }
 
-  module _ (k from total : ℕ) (work : List ℕ) (s : Finding all work₀ k from total work) where
+  module _ (k total : ℕ) (work : List ℕ) (s : Finding all work₀ k total work) where
     single : (i : ℕ) → single? work i ≡ single? work₀ i
     single i = ap (λ (x : ℕ). eqb x 1) (s.beside (8704 + i) (inr (omega arith)))
 
-    module _ (more : k < 8) (end : ℕ) (l : from ≤ end) (m : end ≤ all) (n : end ≤ from + 64) (next : end < all → end ≡ from + 64) (word : ℕ) (is : word ≡ dangling_word from end work) where
+    module _ (more : k < 8) (from end : ℕ) (begins : from ≡ min all (64 * k)) (ends : end ≡ min all (from + 64)) (word : ℕ) (is : word ≡ dangling_word from end work) where
       abbrev new : List ℕ
       new = set work (8192 + k) word
 
       others : (j : ℕ) → (j ≡ 8192 + k → ⊥) → get_or new j 0 ≡ get_or work j 0
       others j d = get_or-set_other work (8192 + k) j word 0 d
 
+      end_is : end ≡ min all (64 * (k + 1))
+      end_is = omega arith
+
       found_here : (i : ℕ) → from ≤ i → i < end → in_set new 1024 i ≡ single? work₀ i
       unfolding in_set dangling_word
       found_here i a b =
-          let start = s.next (omega arith) in
+          let start : from ≡ 64 * k = omega arith in
           let here : i / 64 ≡ k = omega arith in
           let place : i % 64 ≡ i - from = omega arith in
           let row : from + (i - from) ≡ i = omega arith in
@@ -120,27 +119,24 @@ module _ (all : ℕ) (work₀ : List ℕ) (few : all ≤ 512) (room : 9216 ≤ l
           let split = rw e at (tally_split from (end - from) (single? work₀)) in
           let word_ones = ap ones is ∙ number_ones (end - from) (λ i. single? work (from + i))
           ∙ tally_same (end - from) (λ i. single? work₀ (from + i)) (λ i. single? work (from + i)) (λ i h. single (from + i)) in
-          omega (arith, split, word_ones, s.counted)
+          omega (arith, split, word_ones, rw (← begins) at s.counted)
 
-      pub finding_word : Finding all work₀ (k + 1) end (total + ones word) new
+      pub finding_word : Finding all work₀ (k + 1) (total + ones word) new
       finding_word = record {
         long = length-set work (8192 + k) word ∙ s.long;
         beside = λ j h. others j (λ e. ⊎_elim (λ u. omega arith) (λ u. omega arith) h) ∙ s.beside j h;
-        within = m;
-        behind = omega (arith, s.behind);
-        next = λ h. omega (arith, next h, s.next (omega arith));
-        found = λ i h. ⊎_elim (λ (a : i < from). set_same work new 1024 i (others (8192 + i / 64) (λ e. let b = s.behind in omega arith)) ∙ s.found i a) (λ (a : from ≤ i). found_here i a h) (order i from);
-        counted = counted_here;
+        found = λ i h. ⊎_elim (λ (a : i < from). set_same work new 1024 i (others (8192 + i / 64) (λ e. omega arith)) ∙ s.found i (omega arith)) (λ (a : from ≤ i). found_here i a (omega arith)) (order i from);
+        counted = counted_here ∙ ap (λ (x : ℕ). tally x (single? work₀)) end_is;
       }
 
-    pub finding_end : 8 ≤ k → k ≤ 8 → Finds all work₀ (set work 8200 total)
-    finding_end h h' =
+    pub finding_end : 8 ≤ k → Finds all work₀ (set work 8200 total)
+    finding_end h =
         record {
           long = length-set work 8200 total ∙ s.long;
           below = λ j a. others j (λ e. omega arith) ∙ s.beside j (inl a);
           beyond = λ j a. others j (λ e. omega arith) ∙ s.beside j (inr (omega arith));
           tallied = λ a b. record {
-            dangling = λ i h. set_same work new 1024 i (others (8192 + i / 64) (λ e. omega arith)) ∙ s.found i (omega (arith, done)) ∙ sym (single_new i);
+            dangling = λ i l. set_same work new 1024 i (others (8192 + i / 64) (λ e. omega arith)) ∙ s.found i (omega arith) ∙ sym (single_new i);
             total = get_or-set_same work 8200 total 0 (omega (arith, s.long)) ∙ s.counted ∙ ap (λ (x : ℕ). tally x (single? work₀)) done
                 ∙ sym (tally_same all (single? work₀) (single? new) (λ i h. single_new i));
           };
@@ -156,5 +152,5 @@ module _ (all : ℕ) (work₀ : List ℕ) (few : all ≤ 512) (room : 9216 ≤ l
         single_new : (i : ℕ) → single? new i ≡ single? work₀ i
         single_new i = ap (λ (x : ℕ). eqb x 1) (others (8704 + i) (λ e. omega arith)) ∙ single i
 
-        done : from ≡ all
-        done = ⊎_elim (λ (a : from < all). let b = s.next a in absurd (omega arith)) (λ (a : all ≤ from). let b = s.within in omega arith) (order from all)
+        done : min all (64 * k) ≡ all
+        done = omega arith

@@ -46,9 +46,6 @@ module _ (i : ℕ) (joins : Bool) (old mid new : List ℕ) (few : i < 512) (long
   parted e n = changed (rw n (length-set mid 8200 (total - 1))) (λ k d. rw n (get_or-set_other mid 8200 k (total - 1) 0 (λ t. d (sym t))))
       (rw (n, e) (get_or-set_same mid 8200 (total - 1) 0 (omega (arith, f.long))))
 
-  pub bare : joins ≡ false → total ≡ 0 → new ≡ mid → Changed i joins old new
-  bare e h n = changed (rw n) (λ k d. rw n) (rw (n, e) (omega arith))
-
 module _ (i : ℕ) (joins : Bool) (old new : List ℕ) where
   pub changes : 9216 ≤ length old → i < 512 → Changed i joins old new → Changes i joins old new
   changes long few c = record { long = c.long; changed = λ a b. c; refused = λ f. absurd (f long few) }
@@ -162,14 +159,17 @@ module _ (i number : ℕ) (old : List ℕ) (few : i < 512) (long : 9216 ≤ leng
       let told : get_or mid 8200 0 ≡ tally n (single? old) = total_mid ∙ v.total in
       c.total ∙ rw (told, lt-ltb (tally n (single? old)) 512 (omega arith)) (omega arith))
 
+  -- The row has one open qubit less, of two at most.
+  pub dangles_turned : number < 2 → get_or old (8704 + i) 0 ≡ number + 1 → (new : List ℕ) → Changed i (eqb number 1) mid new → Renumbered i number old new
+  dangles_turned few-left then new c =
+      bit (eqb number 1)
+      (λ e. let one = eqb-true number 1 e in dangles_now one (λ t. omega arith) new (rw e at c))
+      (λ e. let none = eqb-false number 1 e in dangles_no_longer none (omega arith) new (rw e at c))
+
 module _ (i : ℕ) (old : List ℕ) where
   pub lowered : 9216 ≤ length old → i < 512 → (left : ℕ) → left + 1 ≡ get_or old (8704 + i) 0 → (new : List ℕ) → Renumbered i left old new → Lowered i old new left
   lowered long few left is new r =
       record { long = r.long; below = r.below; past = r.past; lowered = λ a b d. (is, r.numbered, r.tallied); refused = λ f. absurd (f long few (omega arith)) }
-
-  -- Where the list is short, there is no such row, or its number is 0.
-  pub lowered_not : (9216 ≤ length old → i < 512 → 1 ≤ get_or old (8704 + i) 0 → ⊥) → Lowered i old old 0
-  lowered_not f = record { long = refl; below = λ k h. refl; past = λ k h. refl; lowered = λ a b d. absurd (f a b d); refused = λ g. (refl, refl) }
 
 module _ (i : ℕ) (old : List ℕ) where
   pub raised : (few : i < 512) (long : 9216 ≤ length old) → Raised i old (mid i (get_or old (8704 + i) 0 % 1024 + 1) old few long)
@@ -190,19 +190,17 @@ none_tallied : (n : ℕ) (f : ℕ → Bool) → tally n f ≡ 0 → (j : ℕ) �
 none_tallied n f e j h = not_out (f j) (below_out n _ (none_counted n f e) j h)
 
 module _ (count : ℕ) (work : List ℕ) where
-  pub lowest_short : length work < 9216 → Lowest count work count
-  lowest_short h = record { within = omega arith; by_total = λ z. refl; short = λ s. refl; by_set = λ l. absurd (omega arith); lowest = λ l. absurd (omega arith) }
-
-  pub lowest_none : get_or work 8200 0 ≡ 0 → Lowest count work count
+  -- Where the list is short or the total is 0.
+  pub lowest_none : (9216 ≤ length work → get_or work 8200 0 ≡ 0) → Lowest count work count
   lowest_none z =
       record {
         within = omega arith;
         by_total = λ e. refl;
         short = λ s. refl;
-        by_set = λ l f. absurd (f z);
+        by_set = λ l f. absurd (f (z l));
         lowest = λ l o c e k. (
           (λ h. absurd (omega arith)),
-          (λ j h. none_tallied c.count (dangles? o c) (sym k.total ∙ z) j (omega arith)),
+          (λ j h. none_tallied c.count (dangles? o c) (sym k.total ∙ z l) j (omega arith)),
         );
       }
 

@@ -23,22 +23,15 @@ pub const END: usize = 9216;
 pub fn change(i: KindRow, joins: bool, work: &mut [u64])
     ensures { Changes i.0 joins work.old work.new }
 {
-    if work.len() < END {
-        return;
-    }
-    if 512 <= i.0 {
+    if work.len() < END || 512 <= i.0 {
         return;
     }
     bitsets::flip(work, DANGLING, i.0);
     let total = work[TOTAL];
-    if joins {
-        if total < 512 {
-            work[TOTAL] = total + 1;
-        }
-        return;
-    }
-    if 0 < total {
-        work[TOTAL] = total - 1;
+    if !joins {
+        work[TOTAL] = total.saturating_sub(1);
+    } else if total < 512 {
+        work[TOTAL] = total + 1;
     }
 }
 
@@ -46,10 +39,7 @@ pub fn change(i: KindRow, joins: bool, work: &mut [u64])
 pub fn lower(i: KindRow, work: &mut [u64]) -> u64
     ensures { Lowered i.0 work.old work.new result }
 {
-    if work.len() < END {
-        return 0;
-    }
-    if 512 <= i.0 {
+    if work.len() < END || 512 <= i.0 {
         return 0;
     }
     let at = NUMBERS + i.0 as usize;
@@ -59,12 +49,8 @@ pub fn lower(i: KindRow, work: &mut [u64]) -> u64
     }
     let left = open - 1;
     work[at] = left;
-    if left == 0 {
-        change(i, false, work);
-        return left;
-    }
-    if left == 1 {
-        change(i, true, work);
+    if left < 2 {
+        change(i, left == 1, work);
     }
     left
 }
@@ -73,25 +59,11 @@ pub fn lower(i: KindRow, work: &mut [u64]) -> u64
 pub fn raise(i: KindRow, work: &mut [u64])
     ensures { Raised i.0 work.old work.new }
 {
-    if work.len() < END {
-        return;
-    }
-    if 512 <= i.0 {
+    if work.len() < END || 512 <= i.0 {
         return;
     }
     let at = NUMBERS + i.0 as usize;
     work[at] = work[at] % 1024 + 1;
-}
-
-// Where the 64 rows from `from` on end, of so many rows.
-fn word_end(from: usize, count: usize) -> usize
-    requires { (from ≤ count) × (count ≤ 512) }
-    ensures { (from ≤ result) × (result ≤ count) × (result ≤ from + 64) × (result < count → result ≡ from + 64) }
-{
-    if from + 64 < count {
-        return from + 64;
-    }
-    count
 }
 
 // The rows from `from` on, below `end`, that have one open qubit, as bits of a word: that of row `from` is the lowest.
@@ -100,9 +72,7 @@ fn dangling_word(from: usize, end: usize, work: &[u64]) -> u64
     ensures { result ≡ dangling_word from end work.now }
 {
     let mut word: u64 = 0;
-    let mut j = end;
-    while from < j {
-        j -= 1;
+    for j in (from..end).rev() {
         word = 2 * word + (work[NUMBERS + j] == 1) as u64;
     }
     word
@@ -112,23 +82,16 @@ fn dangling_word(from: usize, end: usize, work: &[u64]) -> u64
 pub fn find_dangling(count: u16, work: &mut [u64])
     ensures { Finds count work.old work.new }
 {
-    if work.len() < END {
-        return;
-    }
-    if 512 < count {
+    if work.len() < END || 512 < count {
         return;
     }
     let all = count as usize;
-    let mut total: u64 = 0;
-    let mut from: usize = 0;
-    let mut k: usize = 0;
-    while k < 8 {
-        let end = word_end(from, all);
-        let word = dangling_word(from, end, work);
+    let mut total = 0;
+    for k in 0..8 {
+        let from = all.min(64 * k);
+        let word = dangling_word(from, all.min(from + 64), work);
         work[FIRST + k] = word;
-        total += u64::count_ones(word) as u64;
-        from = end;
-        k += 1;
+        total += word.count_ones() as u64;
     }
     work[TOTAL] = total;
 }
@@ -148,10 +111,7 @@ pub fn lower_rows(p: Qubit, count: u16, work: &mut [u64])
 pub fn lowest(count: u16, work: &[u64]) -> KindRow
     ensures { Lowest count work.now result.0 }
 {
-    if work.len() < END {
-        return KindRow(count);
-    }
-    if work[TOTAL] == 0 {
+    if work.len() < END || work[TOTAL] == 0 {
         return KindRow(count);
     }
     KindRow(bitsets::next_in(work, DANGLING, 0, count))

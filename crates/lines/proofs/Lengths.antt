@@ -1,12 +1,10 @@
 -- How long the lines of an answer can be. Assumes nothing.
 use mathlib.Core.Path.{◌≡◌, refl, sym}
 use mathlib.Core.Bool.{Bool, true, false, cond}
-use mathlib.Core.Logic.{⊎_elim}
 use mathlib.Core.List.{List, [], ◌∷◌}
-use Prim.Native.Nat.{ℕ, suc, ◌+◌, ◌-◌, ◌*◌, ◌≤◌, ◌<◌, min}
-use native.Mathlib.Nat.{eq-zero-or-pos}
+use Prim.Native.Nat.{ℕ, suc, ◌+◌, ◌*◌, ◌≤◌, ◌<◌, min}
 use native.Mathlib.Omega.{arith}
-use borrow.Author.Tests.{leb-true, le-leb, lt-leb}
+use borrow.Author.Tests.{leb-true}
 use lib.Dec.{eqb, leb}
 use lib.ListN.{length, length-append, take, length-take}
 use Rattle.machine.specs.declared.Word.{Word}
@@ -15,6 +13,7 @@ use Rattle.machine.specs.declared.HalfReport.{HalfReport}
 use Rattle.machine.specs.Words.{finished?}
 use Rattle.records.specs.declared.Answer.{Answer}
 use Rattle.records.specs.declared.Answer.TheVariants.{Refused, Taken, Complete, Decoded}
+use Rattle.std.specs.Prelude.{None, Some}
 use Rattle.records.specs.Table.{refusal_number}
 use Rattle.text.specs.Text.{number, Puts}
 use Rattle.text.proofs.Digits.{decimal_long, decimal_most}
@@ -63,24 +62,12 @@ lines_most kind (Complete s) x z n h =
 lines_most kind (Decoded r) x z n h =
     simp length-append (omega (arith, half_most 88 r.x x n h, half_most 90 r.z z n h))
 
--- Room behind the first `at`.
-pub room_behind : (at most n : ℕ) → at ≤ n → leb most (n - at) ≡ leb (at + most) n
-room_behind at most n h =
-    ⊎_elim
-    (λ (e : at + most - n ≡ 0). rw (le-leb most (n - at) (omega arith), le-leb (at + most) n (omega arith)))
-    (λ l. rw (lt-leb most (n - at) (omega arith), lt-leb (at + most) n (omega arith)))
-    (eq-zero-or-pos (at + most - n))
-
-never : true ≡ false → ⊥
-never e = let z : ◌≡◌ {A = ℕ} 0 1 = cc in omega arith
-
 -- The lines of an answer were put where there is room for them, or nothing was.
 module _ (text : List ℕ) (most at : ℕ) (old : List ℕ) where
-  pub lined : {new : List ℕ} {r : ℕ} → true ≡ leb (at + most) (length old) → length text ≤ most → Puts text at old new r → Lined text most at old new (record { end = r; room = true })
+  pub lined : {new : List ℕ} {r : ℕ} → true ≡ leb (at + most) (length old) → length text ≤ most → Puts text at old new r → Lined text most at old new (Some r)
   lined t l p =
       let h : at + most ≤ length old = leb-true (at + most) (length old) (sym t) in
-      record { told = t; put = λ e. (p.bytes, omega (arith, p.ends)); fits = λ e. omega (arith, p.ends); none = λ e. absurd (never e) }
+      record { told = t; put = (p.bytes, omega (arith, p.ends), omega (arith, p.ends)); none = λ e. cc }
 
-  pub unlined : false ≡ leb (at + most) (length old) → Lined text most at old old (record { end = at; room = false })
-  unlined t =
-      record { told = t; put = λ e. absurd (never (sym e)); fits = λ e. absurd (never (sym e)); none = λ e. (refl, refl) }
+  pub unlined : false ≡ leb (at + most) (length old) → Lined text most at old old None
+  unlined t = record { told = t; put = tt; none = λ e. refl }

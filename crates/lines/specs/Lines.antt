@@ -5,11 +5,11 @@
 --   flips     a blank and the number of each flipped qubit, ascending; q is the first one's number
 --   flip_text  the flips of a finished half; count_text: its four counts
 --   half_line  the line of a half: its letter, word and four counts, and for a finished half its flips
---   code_line, refused_line  the lines of a complete code and of a refusal; other_line: of an answer that is no report
+--   code_line, refused_line  the lines of a complete code and of a refusal
 --   lines_of   the lines of an answer to a record of this kind, with the corrections of the halves and the number of qubits
 --   room_for   no answer is longer: two lines, with a blank and five digits a flip
 --   Lined     a text was put from element `at` on, and nothing else changed; or there was no room for so many bytes, and nothing did
-use Rattle.std.specs.Prelude.{◌≡◌, Bool, true, false, cond, List, [], ◌∷◌, ◌++◌, ℕ, suc, ◌+◌, ◌*◌, ◌≤◌, min, eqb, leb, length, take}
+use Rattle.std.specs.Prelude.{◌≡◌, Bool, cond, List, [], ◌∷◌, ◌++◌, ℕ, suc, ◌+◌, ◌*◌, ◌≤◌, min, eqb, leb, length, take, Option, None, is_some, IfSome}
 use Rattle.std.proofs.lemmas.List.Edits.{sets}
 use Rattle.machine.specs.declared.Word.{Word}
 use Rattle.machine.specs.declared.Word.TheVariants.{Certain, Unsure, Spent, Stopped}
@@ -21,7 +21,6 @@ use Rattle.records.specs.declared.Answer.{Answer}
 use Rattle.records.specs.declared.Answer.TheVariants.{Refused, Taken, Complete, Decoded}
 use Rattle.records.specs.Table.{refusal_number}
 use Rattle.text.specs.Text.{number}
-use Rattle.lines.specs.declared.Put.{Put}
 
 -- A line feed.
 abbrev pub line_end : List ℕ
@@ -62,12 +61,6 @@ unfoldable pub refused_line : Refusal → ℕ → List ℕ
 refused_line r kind = (114 ∷ 101 ∷ 102 ∷ 117 ∷ 115 ∷ 101 ∷ 100 ∷ []) ++ number (refusal_number r) ++ number kind ++ line_end
 
 -- A record that was only taken has no line.
-abbrev pub other_line : ℕ → Answer → List ℕ
-other_line kind (Refused r) = refused_line r kind
-other_line kind Taken = []
-other_line kind (Complete s) = code_line s
-other_line kind (Decoded r) = []
-
 unfoldable pub lines_of : ℕ → Answer → List ℕ → List ℕ → ℕ → List ℕ
 lines_of kind (Refused r) x z n = refused_line r kind
 lines_of kind Taken x z n = []
@@ -77,8 +70,7 @@ lines_of kind (Decoded r) x z n = half_line 88 r.x x n ++ half_line 90 r.z z n
 unfoldable pub room_for : ℕ → List ℕ → List ℕ → ℕ
 room_for n x z = 256 + 6 * (min n (length x) + min n (length z))
 
-pub record Lined (text : List ℕ) (most at : ℕ) (old new : List ℕ) (r : Put) : Type 0 where
-  pub told : r.room ≡ leb (at + most) (length old)
-  pub put : r.room ≡ true → (new ≡ sets old at text) × (r.end ≡ at + length text)
-  pub fits : r.room ≡ true → r.end ≤ length old
-  pub none : r.room ≡ false → (new ≡ old) × (r.end ≡ at)
+pub record Lined (text : List ℕ) (most at : ℕ) (old new : List ℕ) (r : Option ℕ) : Type 0 where
+  pub told : is_some r ≡ leb (at + most) (length old)
+  pub put : IfSome r (λ e. (new ≡ sets old at text) × (e ≡ at + length text) × (e ≤ length old))
+  pub none : r ≡ None → new ≡ old

@@ -1,95 +1,71 @@
 // The line of a half.
-ghost use Rattle.std.specs.Prelude.{◌≡◌, ◌<◌, min, take};
+ghost use Rattle.std.specs.Prelude.{◌≡◌, take};
 ghost use Rattle.machine.specs.Words.{finished?};
-ghost use Rattle.text.specs.Text.{Puts};
+ghost use Rattle.text.specs.Line.{Adds};
 ghost use Rattle.lines.specs.Lines.{word_text, flip, flips, flip_text, count_text, half_line};
 
 use machine::{HalfReport, Word};
-use text::{put_byte, put_number, put_text};
+use text::Line;
 
-// The word of a half.
-fn put_word(out: &mut [u8], at: usize, word: Word) -> usize
-    ensures { Puts (word_text word) at out.old out.new result }
+// A half's word behind a blank.
+fn word_text(word: Word) -> &'static [u8]
+    ensures { result.now ≡ word_text word }
 {
     match word {
-        Word::Certain => put_text(out, at, b" certain"),
-        Word::Unsure => put_text(out, at, b" unsure"),
-        Word::None => put_text(out, at, b" none"),
-        Word::Spent => put_text(out, at, b" spent"),
-        Word::Stopped => put_text(out, at, b" stopped"),
+        Word::Certain => b" certain",
+        Word::Unsure => b" unsure",
+        Word::None => b" none",
+        Word::Spent => b" spent",
+        Word::Stopped => b" stopped",
     }
-}
-
-// The smaller number.
-pub fn least(n: u16, most: usize) -> usize
-    ensures { result ≡ min n most }
-{
-    if (n as usize) < most {
-        return n as usize;
-    }
-    most
 }
 
 // A flipped qubit; nothing of one that is not.
-fn put_flip(out: &mut [u8], at: usize, qubit: usize, element: u8) -> usize
-    ensures { Puts (flip qubit element) at out.old out.new result }
+fn put_flip(line: &mut Line<'_>, qubit: usize, element: u8)
+    ensures { Adds (flip qubit element) line.old line.new }
 {
-    if element == 0 {
-        return at;
+    if element != 0 {
+        line.put_number(qubit as u64);
     }
-    put_number(out, at, qubit as u64)
 }
 
 // The flipped ones of the first n qubits, ascending.
-fn put_flips(out: &mut [u8], at: usize, correction: &[u8], n: u16) -> usize
-    ensures { Puts (flips 0 (take n correction.now)) at out.old out.new result }
+fn put_flips(line: &mut Line<'_>, correction: &[u8], n: u16)
+    ensures { Adds (flips 0 (take n correction.now)) line.old line.new }
 {
-    let most = least(n, correction.len());
-    let mut end = at;
-    let mut q: usize = 0;
-    while q < most {
-        end = put_flip(out, end, q, correction[q]);
-        q += 1;
+    let most = correction.len().min(usize::from(n));
+    for (qubit, &element) in correction[..most].iter().enumerate() {
+        put_flip(line, qubit, element);
     }
-    end
 }
 
 // Only a finished half has flips.
-fn put_correction(out: &mut [u8], at: usize, word: Word, correction: &[u8], n: u16) -> usize
-    ensures { Puts (flip_text (finished? word) correction.now n) at out.old out.new result }
+fn put_correction(line: &mut Line<'_>, word: Word, correction: &[u8], n: u16)
+    ensures { Adds (flip_text (finished? word) correction.now n) line.old line.new }
 {
-    if !machine::is_finished(word) {
-        return at;
+    if machine::is_finished(word) {
+        line.put_text(b" flip");
+        put_flips(line, correction, n);
     }
-    let end = put_text(out, at, b" flip");
-    put_flips(out, end, correction, n)
 }
 
 // The four counts of a half.
-fn put_counts(out: &mut [u8], at: usize, half: HalfReport) -> usize
-    ensures { Puts (count_text half) at out.old out.new result }
+fn put_counts(line: &mut Line<'_>, half: HalfReport)
+    ensures { Adds (count_text half) line.old line.new }
 {
-    let mut end = put_number(out, at, half.fixed as u64);
-    end = put_number(out, end, half.turns as u64);
-    end = put_number(out, end, half.guesses as u64);
-    put_number(out, end, half.live as u64)
+    line.put_number(half.fixed as u64);
+    line.put_number(half.turns as u64);
+    line.put_number(half.guesses as u64);
+    line.put_number(half.live as u64);
 }
 
 // The line of a half.
-pub fn put_half(
-    out: &mut [u8],
-    at: usize,
-    letter: u8,
-    half: HalfReport,
-    correction: &[u8],
-    n: u16,
-) -> usize
-    ensures { Puts (half_line letter half correction.now n) at out.old out.new result }
+pub fn put_half(line: &mut Line<'_>, letter: u8, half: HalfReport, correction: &[u8], n: u16)
+    ensures { Adds (half_line letter half correction.now n) line.old line.new }
 {
-    let word = half.word;
-    let mut end = put_byte(out, at, letter);
-    end = put_word(out, end, word);
-    end = put_counts(out, end, half);
-    end = put_correction(out, end, word, correction, n);
-    put_byte(out, end, b'\n')
+    line.put_byte(letter);
+    line.put_text(word_text(half.word));
+    put_counts(line, half);
+    put_correction(line, half.word, correction, n);
+    line.put_byte(b'\n');
 }

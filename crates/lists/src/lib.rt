@@ -2,40 +2,39 @@
 #![tactic(auto)]
 
 ghost use Rattle.std.specs.Prelude.{◌≡◌, ℕ, ◌≤◌, ◌<◌};
-ghost use Rattle.lists.specs.Cleared.{Cleared};
+ghost use Rattle.lists.specs.Cleared.{ClearedTo};
 ghost use Rattle.lists.specs.Copied.{apart?, Copied};
 
-// The smaller of two numbers.
-fn least(a: usize, b: usize) -> usize
-    ensures { (result ≤ a) × (result ≤ b) × ((k : ℕ) → result ≤ k → k < a → b ≤ k) }
-{
-    if a < b {
-        return a;
-    }
-    b
+// Numbers that have a zero.
+pub trait Zero: Copy {
+    ghost zero: { Self };
+
+    fn zero() -> Self
+        ensures { result ≡ zero };
 }
 
-// Bytes from `from` up to `to` become 0; past the list there are none.
-pub fn clear_bytes(list: &mut [u8], from: usize, to: usize)
-    ensures { Cleared from to list.old list.new }
-{
-    let end = least(to, list.len());
-    let mut i = from;
-    while i < end {
-        list[i] = 0;
-        i += 1;
+impl Zero for u8 {
+    ghost zero = { 0 };
+
+    fn zero() -> u8 {
+        0
     }
 }
 
-// The same of words.
-pub fn clear_words(list: &mut [u64], from: usize, to: usize)
-    ensures { Cleared from to list.old list.new }
+impl Zero for u64 {
+    ghost zero = { 0 };
+
+    fn zero() -> u64 {
+        0
+    }
+}
+
+// Elements from `from` up to `to` become 0; past the list there are none.
+pub fn clear<T: Zero>(list: &mut [T], from: usize, to: usize)
+    ensures { ClearedTo T.zero from to list.old list.new }
 {
-    let end = least(to, list.len());
-    let mut i = from;
-    while i < end {
-        list[i] = 0;
-        i += 1;
+    for i in from..to.min(list.len()) {
+        list[i] = T::zero();
     }
 }
 
@@ -43,13 +42,7 @@ pub fn clear_words(list: &mut [u64], from: usize, to: usize)
 fn are_apart(len: usize, from: usize, to: usize, count: usize) -> bool
     ensures { result ≡ apart? len from to count }
 {
-    if len < count {
-        return false;
-    }
-    if len - count < from {
-        return false;
-    }
-    if len - count < to {
+    if len < count || len - count < from.max(to) {
         return false;
     }
     (from + count <= to) | (to + count <= from)
@@ -59,12 +52,7 @@ fn are_apart(len: usize, from: usize, to: usize, count: usize) -> bool
 pub fn copy_words(list: &mut [u64], from: usize, to: usize, count: usize)
     ensures { Copied from to count list.old list.new }
 {
-    if !are_apart(list.len(), from, to, count) {
-        return;
-    }
-    let mut k: usize = 0;
-    while k < count {
-        list[to + k] = list[from + k];
-        k += 1;
+    if are_apart(list.len(), from, to, count) {
+        list.copy_within(from..from + count, to);
     }
 }

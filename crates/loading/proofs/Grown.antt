@@ -30,7 +30,9 @@ use Rattle.records.specs.declared.State.{State}
 use Rattle.records.specs.declared.Refusal.{Refusal}
 use Rattle.records.specs.declared.Answer.TheVariants.{Refused, Taken, Complete}
 use Rattle.records.specs.declared.Reply.{Reply}
-use Rattle.records.specs.Records.{Pauli, X, Z, size}
+use Rattle.records.specs.declared.Pauli.{Pauli}
+use Rattle.records.specs.declared.Pauli.TheVariants.{X, Z}
+use Rattle.records.specs.Records.{size}
 use Rattle.records.specs.History.{Code, loading, ready, empty_shot, loaded, add_row}
 use Rattle.records.specs.Table.{in_range, awaited}
 use Rattle.records.specs.Lists.{Lists, held, GoodRows, Loads, Holds, Represents}

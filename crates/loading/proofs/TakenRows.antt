@@ -22,7 +22,9 @@ use Rattle.records.specs.declared.Refusal.{Refusal}
 use Rattle.records.specs.declared.Refusal.TheVariants.{Place, Clash, Short}
 use Rattle.records.specs.declared.Answer.TheVariants.{Refused}
 use Rattle.records.specs.declared.Reply.{Reply}
-use Rattle.records.specs.Records.{Pauli, X, Z, row}
+use Rattle.records.specs.declared.Pauli.{Pauli}
+use Rattle.records.specs.declared.Pauli.TheVariants.{X, Z}
+use Rattle.records.specs.Records.{row}
 use Rattle.records.specs.History.{History, empty, loading, ready, add_row}
 use Rattle.records.specs.Table.{in_range, awaited, clashes, refusal}
 use Rattle.records.specs.Lists.{Lists, held, Loads, Represents}
@@ -46,20 +48,10 @@ module _ (st : State) where
   awaits_phase p e = rw e
 
   module _ (e : loads? st.phase ≡ true) where
-    pub awaits_range : (p : Pauli) → in_range st.sizes.n st.sizes.x st.sizes.z ≡ false → false ≡ awaits? p st
-    unfolding awaits?
-    awaits_range p r = rw (e, r)
-
     module _ (r : in_range st.sizes.n st.sizes.x st.sizes.z ≡ true) where
       pub awaits_turn : (p : Pauli) → in_turn p st.sizes st.rows ≡ awaits? p st
       unfolding awaits?
       awaits_turn p = rw (e, r)
-
-      pub awaits_z : st.sizes.x ≤ st.rows → ltb st.rows (st.sizes.x + st.sizes.z) ≡ awaits? Z st
-      awaits_z h = rw (← awaits_turn Z, le-leb st.sizes.x st.rows h)
-
-      pub awaits_before : st.rows < st.sizes.x → leb st.sizes.x st.rows ≡ awaits? Z st
-      awaits_before h = rw (← awaits_turn Z, lt-leb st.sizes.x st.rows h)
 
   -- The count stays in range, in an altered state too.
   pub awaits_few : (p : Pauli) → awaits? p st ≡ true → (st.rows < st.sizes.x + st.sizes.z) × InRange st.sizes.n st.sizes.x st.sizes.z

@@ -14,7 +14,9 @@ use Rattle.records.specs.declared.State.{State}
 use Rattle.records.specs.declared.Refusal.{Refusal}
 use Rattle.records.specs.declared.Answer.TheVariants.{Refused, Taken, Complete}
 use Rattle.records.specs.declared.Reply.{Reply}
-use Rattle.records.specs.Records.{Pauli, X, Z, size, row}
+use Rattle.records.specs.declared.Pauli.{Pauli}
+use Rattle.records.specs.declared.Pauli.TheVariants.{X, Z}
+use Rattle.records.specs.Records.{size, row}
 use Rattle.records.specs.Table.{in_range}
 use Rattle.records.specs.Lists.{Lists, held}
 use Rattle.records.specs.Promise.{Says}

@@ -6,6 +6,7 @@ use mathlib.Core.List.{List}
 use Prim.Native.Nat.{ℕ, ◌+◌, ◌≤◌, ◌<◌}
 use native.Mathlib.Omega.{arith}
 use borrow.Author.Tests.{lt-ltb, le-ltb, le-leb, leb-true}
+use Rattle.std.specs.Prelude.{Option, Some, None}
 use lib.Dec.{ltb, leb}
 use lib.ListN.{length, get_or}
 use Rattle.binary.specs.Meaning.{Qubits, Row}
@@ -17,8 +18,6 @@ use Rattle.code.specs.Lists.{rows_from}
 use Rattle.packing.specs.PackedRows.{RowsPut, PackedFrom}
 use Rattle.packing.proofs.PackedRows.{rows_count, room_for_in}
 use Rattle.search.specs.declared.Cleared.{Cleared}
-use Rattle.search.specs.declared.Search.{Search}
-use Rattle.search.specs.declared.Search.TheVariants.{Short, Made}
 use Rattle.search.specs.Route.{route}
 use Rattle.search.specs.Marked.{enough, Marked}
 use Rattle.search.specs.Ranks.{ClearedRank}
@@ -33,7 +32,7 @@ unfolding listed
 all_listed n lost small ones =
     fun_ext (λ q. ⊎_elim (λ (l : q < n). rw (lt-ltb q n l, ones q (omega arith))) (λ (l : n ≤ q). rw (le-ltb q n l)) (order q n))
 
-module _ (n : ℕ) (flat ends : List ℕ) (first count : ℕ) (lost work work₁ work₂ marks marks' : List ℕ) (b : Bool) (r : Search)
+module _ (n : ℕ) (flat ends : List ℕ) (first count : ℕ) (lost work work₁ work₂ marks marks' : List ℕ) (b : Bool) (r : Option Cleared)
     (start : first ≤ 512) (lost_long : length lost ≡ 1024) (ones : (q : ℕ) → q < 1024 → get_or lost q 0 ≡ 1)
     (work_long : length work ≡ 10240) (marks_long : length marks ≡ 1024)
     (packs : PackedFrom n flat ends first count work work₁ b) (searches : Marked n count lost work₁ marks work₂ marks' r) where
@@ -61,10 +60,10 @@ module _ (n : ℕ) (flat ends : List ℕ) (first count : ℕ) (lost work work₁
   unfolding few? enough
   not_long e = rw e
 
-  pub unranked : r ≡ Short → RankOf n flat ends first count 0
+  pub unranked : r ≡ None → RankOf n flat ends first count 0
   unranked e = record { few = omega arith; is = λ sizes. let m = searches.made (long sizes) in let z : ◌≡◌ {A = ℕ} 0 1 = cc in absurd (omega arith); none = λ f. refl }
 
-  pub ranked : (c : Cleared) → r ≡ Made c → RankOf n flat ends first count c.all
+  pub ranked : (c : Cleared) → r ≡ Some c → RankOf n flat ends first count c.all
   unfolding ClearedRank
   ranked c e =
       record {

@@ -8,3 +8,4 @@ pub mod Demands
 pub mod Unread
 pub mod Peeling
 pub mod OneWord
+pub mod Lent

@@ -4,6 +4,15 @@
 ghost use Rattle.std.specs.Prelude.{◌≡◌};
 ghost use Rattle.machine.specs.Words.{finished?};
 
+// The marks of lost qubits, elements of a lent list of bytes (document 01, "Lists lent to a decode"); 0 marks a qubit that is not lost.
+pub const FIXED: u8 = 1;
+
+pub const PEELED: u8 = 2;
+
+pub const GUESSED: u8 = 3;
+
+pub const OPEN: u8 = 4;
+
 // The five words in which a decode ends for each half.
 #[derive(Clone, Copy)]
 pub enum Word {
@@ -24,15 +33,17 @@ pub struct HalfReport {
     pub live: u16,
 }
 
+// The three lists of a half that a decode is lent.
+#[derive(Drop)]
+pub struct LentHalf<'a> {
+    pub marks: &'a mut [u8],
+    pub forms: &'a mut [u64],
+    pub correction: &'a mut [u8],
+}
+
 // Whether the word is said of a finished half, which has flips.
 pub fn is_finished(w: Word) -> bool
     ensures { result ≡ finished? w }
 {
-    match w {
-        Word::Certain => true,
-        Word::Unsure => true,
-        Word::None => false,
-        Word::Spent => false,
-        Word::Stopped => false,
-    }
+    matches!(w, Word::Certain | Word::Unsure)
 }

@@ -20,7 +20,7 @@ use Rattle.columns.specs.Planes.{planes, Carried, number}
 use Rattle.columns.specs.Columns.{untaken}
 use Rattle.binary.proofs.Weights.{weigh_same}
 use Rattle.columns.proofs.Numbers.{untaken_at}
-use Rattle.numbering.specs.Numbering.{Counted, Stays, inside?, RowsIn, Joined, WhereInside, NumberedRow}
+use Rattle.numbering.specs.Numbering.{Counted, Stays, inside?, RowsIn, Joined, JoinedBy, WhereInside, NumberedRow}
 
 -- A number is told by its planes.
 pub number_same : (m m' : List ℕ) (c : ℕ) → ((p : ℕ) → p < 10 → get_or m' (8192 + 16 * (c / 64) + p) 0 ≡ get_or m (8192 + 16 * (c / 64) + p) 0)
@@ -121,6 +121,11 @@ Adding w from to k m m' = Joining 1 (cell m w to) (λ c. cell m w from c && unta
 abbrev pub Merging : ℕ → ℕ → ℕ → ℕ → List ℕ → List ℕ → Type 0
 Merging w from to k m m' = Joining 2 (λ c. true) (λ c. cell m w from c && cell m w to c && untaken m c) w from to k m m'
 
+-- Merged or added.
+abbrev pub JoiningBy : Bool → ℕ → ℕ → ℕ → ℕ → List ℕ → List ℕ → Type 0
+JoiningBy false w from to k m m' = Adding w from to k m m'
+JoiningBy true w from to k m m' = Merging w from to k m m'
+
 pub joining_none : (weight : ℕ) (down into : ℕ → Bool) (w from to : ℕ) (m : List ℕ) → Joining weight down into w from to 0 m m
 joining_none weight down into w from to m =
     record { long = refl; words = λ j h. absurd (omega arith); kept = λ j h l. refl; counting = counting_none weight down into m }
@@ -206,6 +211,14 @@ joined weight down into w from to m m' s =
       beyond = s.counting.later;
       numbers = s.counting.numbers;
     }
+
+pub joined_by : (merges : Bool) (w from to : ℕ) (m m' : List ℕ) → JoiningBy merges w from to w m m' → JoinedBy merges w from to m m'
+joined_by false w from to m m' s = joined _ _ _ w from to m m' s
+joined_by true w from to m m' s = joined _ _ _ w from to m m' s
+
+pub by_none : (merges : Bool) (w from to : ℕ) (m : List ℕ) → JoiningBy merges w from to 0 m m
+by_none false w from to m = joining_none _ _ _ w from to m
+by_none true w from to m = joining_none _ _ _ w from to m
 
 ----------------------------------------------------------------------
 -- Rows that lie in the list

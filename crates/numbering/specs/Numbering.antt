@@ -7,9 +7,10 @@
 --   Joined         row `from` is added to row `to`, and numbers change by a weight
 --   Added          and the numbers follow
 --   Merged         and row `from` is counted no more
+--   JoinedBy       merged or added
 --   NumberedBut    the number of each untaken column is how many rows but row i have it
 --   WhereInside    a change is made if both rows lie in the list
---   Adds           the promise of `add_row`; Merges: of `merge_row`
+--   Adds           the promise of `add_row`; Merges: of `merge_row`; Joins: of either
 --   KnownWord      the columns of a word that are not lost
 --   KnownSet       the untaken columns are those that are not lost
 --   NumberedRow    a row counted; NumberedRows: the first rows
@@ -65,6 +66,11 @@ Added w from to m m' = Joined 1 (cell m w to) (λ c. cell m w from c && untaken 
 abbrev pub Merged : ℕ → ℕ → ℕ → List ℕ → List ℕ → Type 0
 Merged w from to m m' = Joined 2 (λ c. true) (λ c. cell m w from c && cell m w to c && untaken m c) w from to m m'
 
+-- Whether it merges is told first.
+abbrev pub JoinedBy : Bool → ℕ → ℕ → ℕ → List ℕ → List ℕ → Type 0
+JoinedBy false w from to m m' = Added w from to m m'
+JoinedBy true w from to m m' = Merged w from to m m'
+
 -- Of the rows from place top on.
 abbrev pub NumberedBut : ℕ → ℕ → ℕ → ℕ → List ℕ → Type 0
 NumberedBut w top rows i m = (c : ℕ) → c < 64 * w → untaken m c ≡ true → number m c + cond (cell m w i c) 1 0 ≡ rows_with m w top rows c
@@ -79,6 +85,9 @@ Adds w from to m m' = WhereInside w from to m m' (Added w from to m m')
 
 abbrev pub Merges : ℕ → ℕ → ℕ → List ℕ → List ℕ → Type 0
 Merges w from to m m' = WhereInside w from to m m' (Merged w from to m m')
+
+abbrev pub Joins : Bool → ℕ → ℕ → ℕ → List ℕ → List ℕ → Type 0
+Joins merges w from to m m' = WhereInside w from to m m' (JoinedBy merges w from to m m')
 
 ----------------------------------------------------------------------
 -- The start

@@ -4,12 +4,9 @@
 
 ghost use Rattle.std.specs.Prelude.{◌≡◌, not, ◌&&◌, ◌+◌, ◌^◌, ◌≤◌, ◌<◌, ltb, length};
 ghost use Rattle.binary.specs.Words.{bit, listed};
-ghost use Rattle.numbering.specs.Numbering.{Rippled, Counted, inside?, RowsIn, Added, Merged, Adds, Merges, KnownWord, KnownSet, NumberedRow, NumberedRows, Starts};
+ghost use Rattle.numbering.specs.Numbering.{Rippled, Counted, inside?, RowsIn, JoinedBy, Joins, Adds, Merges, KnownWord, KnownSet, NumberedRow, NumberedRows, Starts};
 
-// Where the work list has the planes, 16 words for 64 columns, and the set of untaken columns.
-const PLANES: usize = 8192;
-
-const UNTAKEN: usize = 8448;
+use columns::{PLANES, UNTAKEN};
 
 // Planes `from` up to `end` of the 64 numbers at `at`: where the carry has a bit, the number grows by the weight of plane `from`, or shrinks by it where
 // the other word has that bit too. Returns what goes on to plane `end`.
@@ -18,12 +15,10 @@ fn ripple(m: &mut [u64], at: usize, from: usize, end: usize, first: u64, other: 
     ensures { Rippled at from end first other m.old m.new result }
 {
     let mut carry = first;
-    let mut p = from;
-    while p < end {
+    for p in from..end {
         let old = m[at + p];
         m[at + p] = old ^ carry;
-        carry = carry & (old ^ other);
-        p += 1;
+        carry &= old ^ other;
     }
     carry
 }
@@ -43,39 +38,23 @@ fn count(m: &mut [u64], k: usize, plane: usize, bits: u64, other: u64)
     }
 }
 
-// Row `from` is added to row `to`.
-fn add_words(m: &mut [u64], w: usize, from: usize, to: usize)
+// Row `from` is added to row `to`, and, where it merges, is counted no more.
+fn join_words<const MERGES: bool>(m: &mut [u64], w: usize, from: usize, to: usize)
     requires { RowsIn w from to m.old }
-    ensures { Added w from to m.old m.new }
+    ensures { JoinedBy MERGES w from to m.old m.new }
 {
     let a = from * w;
     let b = to * w;
-    let mut k = 0;
-    while k < w {
+    for k in 0..w {
         let new = m[a + k];
         let old = m[b + k];
-        let bits = new & m[UNTAKEN + k];
+        let untaken = m[UNTAKEN + k];
         m[b + k] = old ^ new;
-        count(m, k, 0, bits, old);
-        k += 1;
-    }
-}
-
-// Row `from` is added to row `to`, and is counted no more.
-fn merge_words(m: &mut [u64], w: usize, from: usize, to: usize)
-    requires { RowsIn w from to m.old }
-    ensures { Merged w from to m.old m.new }
-{
-    let a = from * w;
-    let b = to * w;
-    let mut k = 0;
-    while k < w {
-        let new = m[a + k];
-        let old = m[b + k];
-        let bits = new & old & m[UNTAKEN + k];
-        m[b + k] = old ^ new;
-        count(m, k, 1, bits, u64::MAX);
-        k += 1;
+        if MERGES {
+            count(m, k, 1, new & old & untaken, u64::MAX);
+        } else {
+            count(m, k, 0, new & untaken, old);
+        }
     }
 }
 
@@ -86,14 +65,21 @@ fn lies_in(len: usize, w: usize, i: usize) -> bool
     (w <= 16) & (i < 512) & (10240 <= len)
 }
 
+// Rows that do not lie in the list are not joined.
+fn join_row<const MERGES: bool>(work: &mut [u64], w: usize, from: usize, to: usize)
+    ensures { Joins MERGES w from to work.old work.new }
+{
+    if lies_in(work.len(), w, from) & lies_in(work.len(), w, to) {
+        join_words::<MERGES>(work, w, from, to);
+    }
+}
+
 // Row `from` is added to row `to`, and the number of each untaken column follows. A row added to itself is emptied. Rows that do not lie in the list are
 // not added.
 pub fn add_row(work: &mut [u64], w: usize, from: usize, to: usize)
     ensures { Adds w from to work.old work.new }
 {
-    if lies_in(work.len(), w, from) & lies_in(work.len(), w, to) {
-        add_words(work, w, from, to);
-    }
+    join_row::<false>(work, w, from, to);
 }
 
 // Row `from` is added to row `to`, and is counted no more, though its words stay: the number of an untaken column that both have falls by two, any other stays.
@@ -101,9 +87,7 @@ pub fn add_row(work: &mut [u64], w: usize, from: usize, to: usize)
 pub fn merge_row(work: &mut [u64], w: usize, from: usize, to: usize)
     ensures { Merges w from to work.old work.new }
 {
-    if lies_in(work.len(), w, from) & lies_in(work.len(), w, to) {
-        merge_words(work, w, from, to);
-    }
+    join_row::<true>(work, w, from, to);
 }
 
 // Whether column `q` is one of the `n` and not lost.
@@ -111,10 +95,7 @@ fn is_known(n: usize, lost: &[u8], q: usize) -> bool
     requires { n ≤ length lost.now }
     ensures { result ≡ (ltb q n && not (listed n lost.now q)) }
 {
-    if n <= q {
-        return false;
-    }
-    lost[q] != 1
+    q < n && lost[q] != 1
 }
 
 // The columns of word `k` that are not lost.
@@ -123,12 +104,10 @@ fn known_word(n: usize, lost: &[u8], k: usize) -> u64
     ensures { KnownWord n k lost.now 64 result }
 {
     let mut word: u64 = 0;
-    let mut b: usize = 0;
-    while b < 64 {
+    for b in 0..64 {
         if is_known(n, lost, 64 * k + b) {
-            word = word | (1 << b);
+            word |= 1 << b;
         }
-        b += 1;
     }
     word
 }
@@ -138,10 +117,8 @@ fn set_known(m: &mut [u64], w: usize, n: usize, lost: &[u8])
     requires { (n ≤ length lost.now) × (w ≤ 16) × (10240 ≤ length m.old) }
     ensures { KnownSet n w lost.now m.old m.new }
 {
-    let mut k = 0;
-    while k < w {
+    for k in 0..w {
         m[UNTAKEN + k] = known_word(n, lost, k);
-        k += 1;
     }
 }
 
@@ -151,11 +128,9 @@ fn number_row(m: &mut [u64], w: usize, i: usize)
     ensures { NumberedRow w i m.old m.new }
 {
     let a = i * w;
-    let mut k = 0;
-    while k < w {
+    for k in 0..w {
         let bits = m[a + k] & m[UNTAKEN + k];
         count(m, k, 0, bits, 0);
-        k += 1;
     }
 }
 
@@ -164,10 +139,8 @@ fn number_rows(m: &mut [u64], w: usize, rows: usize)
     requires { (rows ≤ 512) × (w ≤ 16) × (10240 ≤ length m.old) }
     ensures { NumberedRows w rows m.old m.new }
 {
-    let mut i = 0;
-    while i < rows {
+    for i in 0..rows {
         number_row(m, w, i);
-        i += 1;
     }
 }
 
@@ -177,7 +150,7 @@ pub fn start(work: &mut [u64], w: usize, rows: usize, n: usize, lost: &[u8])
 {
     let fits = (w <= 16) & (rows <= 512) & (10240 <= work.len()) & (n <= lost.len());
     if fits {
-        lists::clear_words(work, PLANES, PLANES + 16 * w);
+        lists::clear(work, PLANES, PLANES + 16 * w);
         set_known(work, w, n, lost);
         number_rows(work, w, rows);
     }

@@ -28,8 +28,8 @@ module _ (o r : Output) (text places : List ℕ) (f : Flushed o text places r) (
   took : Taken o text places r
   took = f.taken (still_open o r f.shut e)
 
-  all_taken : took.wrote.count ≡ length text
-  all_taken = omega (arith, took.written.most, ltb-false took.wrote.count (length text) (sym took.written.failed ∙ sym took.failed ∙ e))
+  all_taken : took.count ≡ length text
+  all_taken = omega (arith, took.written.most, ltb-false took.count (length text) (sym took.written.failed ∙ e))
 
   pub all_bytes : r.bytes ≡ total o.bytes (length text)
   all_bytes = rw all_taken at took.bytes
@@ -37,5 +37,5 @@ module _ (o r : Output) (text places : List ℕ) (f : Flushed o text places r) (
   pub all_records : ((i : ℕ) → i < length places → get_or places i 0 ≤ length text) → r.records ≡ total o.records (length places)
   all_records within =
       rw (⊎_elim (λ q. q)
-      (λ l. let a : took.wrote.count < get_or places took.whole 0 = took.answered.next l in absurd (omega (arith, within took.whole l, all_taken)))
+      (λ l. let a : took.count < get_or places took.whole 0 = took.answered.next l in absurd (omega (arith, within took.whole l, all_taken)))
       (eq-or-lt_of_le took.answered.most)) at took.records

@@ -21,13 +21,12 @@ flushed_none o b s =
     record {
       shut = λ e. refl;
       taken = λ e. record {
-        wrote = record { count = 0; failed = false };
+        count = 0;
         whole = 0;
-        written = record { most = omega arith; failed = refl };
+        written = record { most = omega arith; failed = e };
         answered = record { most = omega arith; each = λ i l. absurd (omega arith); next = λ l. absurd (omega arith) };
         bytes = omega arith;
         records = omega arith;
-        failed = e;
       };
     }
 
@@ -57,16 +56,15 @@ module _ (o m r : Output) (a b ps qs ss : List ℕ) (f : Flushed o a ps m) (g : 
   -- The first failed.
   first_failed : Taken o a ps m → m.failed ≡ true → Taken o (a ++ b) (ps ++ ss) r
   first_failed t e =
-      let k : t.wrote.count < length a = ltb-true t.wrote.count (length a) (sym t.written.failed ∙ sym t.failed ∙ e) in
-      let w : t.wrote.failed ≡ true = sym t.failed ∙ e in
+      let k : t.count < length a = ltb-true t.count (length a) (sym t.written.failed ∙ e) in
+      let l : t.count < length (a ++ b) = rw (length-append a b) (omega arith) in
       record {
-        wrote = t.wrote;
+        count = t.count;
         whole = t.whole;
-        written = record { most = rw (length-append a b) (omega arith); failed = w ∙ sym (lt-ltb t.wrote.count (length (a ++ b)) (rw (length-append a b) (omega arith))) };
+        written = record { most = omega arith; failed = rw (g.shut e) (e ∙ sym (lt-ltb t.count (length (a ++ b)) l)) };
         answered = whole_first (length a) ps qs ss long behind _ _ t.answered k;
         bytes = rw (g.shut e) t.bytes;
         records = rw (g.shut e) t.records;
-        failed = rw (g.shut e) t.failed;
       }
 
   -- Neither test of the counts is about more than their sum.
@@ -83,13 +81,12 @@ module _ (o m r : Output) (a b ps qs ss : List ℕ) (f : Flushed o a ps m) (g : 
       let ab : m.bytes ≡ total o.bytes (length a) = all_bytes o m a ps f e in
       let ar : m.records ≡ total o.records (length ps) = all_records o m a ps f e within in
       record {
-        wrote = record { count = length a + u.wrote.count; failed = u.wrote.failed };
+        count = length a + u.count;
         whole = length ps + u.whole;
-        written = record { most = rw (length-append a b) (omega (arith, u.written.most)); failed = u.written.failed ∙ rw (length-append a b) (shifted (length a) (length b) u.wrote.count) };
-        answered = whole_both (length a) ps qs ss long behind u.wrote.count u.whole within u.answered;
+        written = record { most = rw (length-append a b) (omega (arith, u.written.most)); failed = u.written.failed ∙ rw (length-append a b) (shifted (length a) (length b) u.count) };
+        answered = whole_both (length a) ps qs ss long behind u.count u.whole within u.answered;
         bytes = omega (arith, u.bytes);
         records = omega (arith, u.records);
-        failed = u.failed;
       }
 
   pub flushed_join : Flushed o (a ++ b) (ps ++ ss) r

@@ -1,16 +1,11 @@
 -- A state's numbers stand for it again, and a word's number for the word.
 use mathlib.Core.Path.{◌≡◌, refl}
 use mathlib.Core.Bool.{Bool, true, false}
-use mir.Val.{bool_byte}
 use Rattle.records.specs.declared.Phase.{Phase}
 use Rattle.records.specs.declared.Phase.TheVariants.{Empty, Loading, Ready}
 use Rattle.records.specs.declared.State.{State}
 use Rattle.machine.specs.declared.Word.TheVariants.{Certain, Unsure, None, Spent, Stopped}
 use Rattle.plain.specs.Plain.{phase_number, phase_of, flag_number, flag_of, state_of, plain_state, WordLaw}
-
-pub flag_cast : (b : Bool) → bool_byte b ≡ flag_number b
-flag_cast true = refl
-flag_cast false = refl
 
 phase_back : (p : Phase) → phase_of (phase_number p) ≡ p
 phase_back Empty = refl

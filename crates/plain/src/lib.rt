@@ -2,10 +2,10 @@
 #![tactic(auto)]
 
 ghost use Rattle.std.specs.Prelude.{◌≡◌};
-ghost use Rattle.plain.specs.Plain.{phase_of, phase_number, state_of, plain_state, word_of, plain_half, no_half, unreported, plain_answer, plain_reply};
+ghost use Rattle.plain.specs.Plain.{phase_of, phase_number, state_of, plain_state, word_of, plain_half, unreported, plain_reply};
 
 use machine::{HalfReport, Word};
-use records::{Answer, Phase, Reply, Report, Sizes, State};
+use records::{Answer, Phase, Reply, Sizes, State};
 
 // What passes from call to call beside the lists: a fresh start's, or as the last reply has it.
 #[repr(C)]
@@ -24,7 +24,7 @@ pub struct RackState {
 
 // What is reported of a half; of an answer that is no report, zeros.
 #[repr(C)]
-#[derive(Clone, Copy)]
+#[derive(Clone, Copy, Default)]
 pub struct RackHalf {
     pub word: u16,
     pub fixed: u16,
@@ -48,13 +48,11 @@ pub struct RackReply {
 fn phase_of(p: u8) -> Phase
     ensures { result ≡ phase_of p }
 {
-    if p == 1 {
-        return Phase::Loading;
+    match p {
+        1 => Phase::Loading,
+        2 => Phase::Ready,
+        _ => Phase::Empty,
     }
-    if p == 2 {
-        return Phase::Ready;
-    }
-    Phase::Empty
 }
 
 // 0 no code, 1 loading, 2 complete.
@@ -72,83 +70,67 @@ fn phase_number(p: Phase) -> u8
 pub fn word_of(w: u16) -> Word
     ensures { result ≡ word_of w }
 {
-    if w == 1 {
-        return Word::Certain;
+    match w {
+        1 => Word::Certain,
+        2 => Word::Unsure,
+        3 => Word::None,
+        4 => Word::Spent,
+        _ => Word::Stopped,
     }
-    if w == 2 {
-        return Word::Unsure;
-    }
-    if w == 3 {
-        return Word::None;
-    }
-    if w == 4 {
-        return Word::Spent;
-    }
-    Word::Stopped
 }
 
 // The state that the numbers stand for.
-pub fn state_of(s: RackState) -> State
-    ensures { result ≡ state_of s }
-{
-    State {
-        phase: phase_of(s.phase),
-        sizes: Sizes {
-            n: s.n,
-            x: s.x,
-            z: s.z,
-        },
-        rows: s.rows,
-        clash: s.clash != 0,
-        spoiled: s.spoiled != 0,
-        stale: s.stale != 0,
-        reports: s.reports,
+impl From<RackState> for State {
+    ghost from_gives = { λ s st. st ≡ state_of s };
+
+    fn from(s: RackState) -> State {
+        State {
+            phase: phase_of(s.phase),
+            sizes: Sizes {
+                n: s.n,
+                x: s.x,
+                z: s.z,
+            },
+            rows: s.rows,
+            clash: s.clash != 0,
+            spoiled: s.spoiled != 0,
+            stale: s.stale != 0,
+            reports: s.reports,
+        }
     }
 }
 
 // The numbers of a state.
-pub fn state(s: State) -> RackState
-    ensures { result ≡ plain_state s }
-{
-    let phase = s.phase;
-    let sizes = s.sizes;
-    RackState {
-        phase: phase_number(phase),
-        clash: s.clash as u8,
-        spoiled: s.spoiled as u8,
-        stale: s.stale as u8,
-        n: sizes.n,
-        x: sizes.x,
-        z: sizes.z,
-        rows: s.rows,
-        reports: s.reports,
+impl From<State> for RackState {
+    ghost from_gives = { λ st s. s ≡ plain_state st };
+
+    fn from(s: State) -> RackState {
+        RackState {
+            phase: phase_number(s.phase),
+            clash: s.clash as u8,
+            spoiled: s.spoiled as u8,
+            stale: s.stale as u8,
+            n: s.sizes.n,
+            x: s.sizes.x,
+            z: s.sizes.z,
+            rows: s.rows,
+            reports: s.reports,
+        }
     }
 }
 
 // The numbers of a half that is reported.
-fn half(h: HalfReport) -> RackHalf
-    ensures { result ≡ plain_half h }
-{
-    let word = h.word;
-    RackHalf {
-        word: rules::word_number(word),
-        fixed: h.fixed,
-        turns: h.turns,
-        guesses: h.guesses,
-        live: h.live,
-    }
-}
+impl From<HalfReport> for RackHalf {
+    ghost from_gives = { λ h r. r ≡ plain_half h };
 
-// Of a half that is not reported.
-fn no_half() -> RackHalf
-    ensures { result ≡ no_half }
-{
-    RackHalf {
-        word: 0,
-        fixed: 0,
-        turns: 0,
-        guesses: 0,
-        live: 0,
+    fn from(h: HalfReport) -> RackHalf {
+        RackHalf {
+            word: rules::word_number(h.word),
+            fixed: h.fixed,
+            turns: h.turns,
+            guesses: h.guesses,
+            live: h.live,
+        }
     }
 }
 
@@ -157,46 +139,31 @@ fn unreported(state: RackState, answer: u16, refusal: u16) -> RackReply
     ensures { result ≡ unreported answer refusal state }
 {
     RackReply {
-        state: state,
-        answer: answer,
-        refusal: refusal,
-        x: no_half(),
-        z: no_half(),
+        state,
+        answer,
+        refusal,
+        x: RackHalf::default(),
+        z: RackHalf::default(),
     }
 }
 
-// An answer that is a report.
-fn reported(state: RackState, r: Report) -> RackReply
-    ensures { result ≡ plain_answer (Answer.Decoded r) state }
-{
-    let x = r.x;
-    let z = r.z;
-    RackReply {
-        state: state,
-        answer: 2,
-        refusal: 0,
-        x: half(x),
-        z: half(z),
-    }
-}
+// The numbers of a reply. The answer beside the state: 0 taken, 1 complete, 2 decoded, 3 refused.
+impl From<Reply> for RackReply {
+    ghost from_gives = { λ r n. n ≡ plain_reply r };
 
-// The answer beside the state: 0 taken, 1 complete, 2 decoded, 3 refused.
-fn answered(state: RackState, answer: Answer) -> RackReply
-    ensures { result ≡ plain_answer answer state }
-{
-    match answer {
-        Answer::Taken => unreported(state, 0, 0),
-        Answer::Complete(_) => unreported(state, 1, 0),
-        Answer::Decoded(r) => reported(state, r),
-        Answer::Refused(why) => unreported(state, 3, rules::refusal_number(why) as u16),
+    fn from(r: Reply) -> RackReply {
+        let state = RackState::from(r.state);
+        match r.answer {
+            Answer::Taken => unreported(state, 0, 0),
+            Answer::Complete(_) => unreported(state, 1, 0),
+            Answer::Decoded(report) => RackReply {
+                state,
+                answer: 2,
+                refusal: 0,
+                x: RackHalf::from(report.x),
+                z: RackHalf::from(report.z),
+            },
+            Answer::Refused(why) => unreported(state, 3, rules::refusal_number(why) as u16),
+        }
     }
-}
-
-// The numbers of a reply.
-pub fn reply(r: Reply) -> RackReply
-    ensures { result ≡ plain_reply r }
-{
-    let after = r.state;
-    let answer = r.answer;
-    answered(state(after), answer)
 }

@@ -4,7 +4,9 @@ use mathlib.Core.List.{List, [], ◌∷◌, ◌++◌, map}
 use Prim.Native.Nat.{ℕ}
 use native.Mathlib.Omega.{arith}
 use Rattle.records.specs.declared.Answer.{Answer}
-use Rattle.window_meaning.specs.declared.WindowAnswer.{WindowAnswer}
+use Rattle.std.specs.Prelude.{Result}
+use Rattle.window_meaning.specs.declared.Counts.{Counts}
+use Rattle.window_meaning.specs.declared.WindowRefusal.{WindowRefusal}
 use Rattle.records.specs.States.{fresh_state}
 use Rattle.claim.specs.Calls.{Call, step, look, Run, Place}
 use Rattle.claim.proofs.Claim.{claim}
@@ -47,7 +49,7 @@ tells : (j : Call) (p : Place j) (k : RackCall) → k ≡ plain_call j → Tells
 tells (step j) p k e =
     e ∙ ap (λ (a : Answer). rack_step (record { bytes = j.bytes; work = j.work; six = j.six; reply = plain_answer a (plain_state j.reply.state); left = j.left }))
     (claim.told j p).answer
-tells (look a) p k e = e ∙ ap (λ (x : WindowAnswer). rack_look (plain_window x)) (claim.window a p).0
+tells (look a) p k e = e ∙ ap (λ (x : Result Counts WindowRefusal). rack_look (plain_window x)) (claim.window a p).0
 
 pub rack_claim : RackClaim
 unfolding RackClaim

@@ -2,10 +2,10 @@
 --   plain_counts  those of a half kind
 --   plain_window  the answer to a read of the window: the number of a refusal, or 0 and the counts
 --   rack_window   the answer of `rack_window`: that of `window::read`, in plain numbers
-use Rattle.std.specs.Prelude.{List, ℕ}
+use Rattle.std.specs.Prelude.{List, ℕ, Result, Ok, Err}
 use Rattle.window_meaning.specs.declared.HalfCounts.{HalfCounts}
-use Rattle.window_meaning.specs.declared.WindowAnswer.{WindowAnswer}
-use Rattle.window_meaning.specs.declared.WindowAnswer.TheVariants.{Refused, Counted}
+use Rattle.window_meaning.specs.declared.Counts.{Counts}
+use Rattle.window_meaning.specs.declared.WindowRefusal.{WindowRefusal}
 use Rattle.window_meaning.specs.Read.{window_number, window_answer}
 use Rattle.plain.specs.declared.RackState.{RackState}
 use Rattle.rack.specs.declared.counts.RackHalfCounts.{RackHalfCounts}
@@ -28,9 +28,9 @@ plain_counts c =
 abbrev pub no_counts : RackHalfCounts
 no_counts = record { certain = 0; unsure = 0; none = 0; spent = 0; stopped = 0; turns = 0; guesses = 0; live = 0 }
 
-abbrev pub plain_window : WindowAnswer → RackCounts
-plain_window (Counted c) = record { refusal = 0; x = plain_counts c.x; z = plain_counts c.z }
-plain_window (Refused why) = record { refusal = window_number why; x = no_counts; z = no_counts }
+abbrev pub plain_window : Result Counts WindowRefusal → RackCounts
+plain_window (Ok c) = record { refusal = 0; x = plain_counts c.x; z = plain_counts c.z }
+plain_window (Err why) = record { refusal = window_number why; x = no_counts; z = no_counts }
 
 -- The state counts its reports by the same number.
 abbrev pub rack_window : RackState → List ℕ → RackCounts

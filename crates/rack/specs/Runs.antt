@@ -6,9 +6,8 @@
 --   Tells      its answer, in plain numbers: to a record the table's, to a read a fresh count over the last 256 reports
 --   Claimed    it is, in plain numbers, a call that the claim is about, at the same place
 --   RackClaim  so is every call in every list of calls from `rack_fresh` on
-use Rattle.std.specs.Prelude.{◌≡◌, cond, List, [], ◌∷◌, ◌++◌, map, ℕ, ltb, length}
+use Rattle.std.specs.Prelude.{◌≡◌, cond, List, [], ◌∷◌, ◌++◌, map, ℕ, ltb, length, Ok, Err}
 use Rattle.window_meaning.specs.declared.WindowRefusal.TheVariants.{Short}
-use Rattle.window_meaning.specs.declared.WindowAnswer.TheVariants.{Refused, Counted}
 use Rattle.records.specs.Records.{record_of}
 use Rattle.records.specs.Lists.{Six, Lent, lent_of}
 use Rattle.records.specs.States.{fresh_state}
@@ -82,7 +81,7 @@ Tells (step j) p k =
       left = j.left;
     })
 Tells (look a) p k =
-    k ≡ rack_look (plain_window (cond (ltb (length p.lists.window) 2560) (Refused Short) (Counted (fresh_count (last 256 (reports_of [] p.before))))))
+    k ≡ rack_look (plain_window (cond (ltb (length p.lists.window) 2560) (Err Short) (Ok (fresh_count (last 256 (reports_of [] p.before))))))
 
 -- What `Claim` says of that call, it says of this one, whose numbers are its own.
 pub record Claimed (k : RackCall) (p : RackPlace k) : Type 0 where

@@ -13,7 +13,9 @@ ghost use Rattle.rack.specs.Candidates.{RackGives};
 ghost use Rattle.rack.specs.Counts.{rack_window};
 
 use counts::RackCounts;
+use machine::LentHalf;
 use plain::{RackReply, RackState};
+use records::{PassedLists, State};
 
 // One more whenever a call, a list or a struct changes.
 const VERSION: u16 = 8;
@@ -31,7 +33,7 @@ pub extern "C" fn rack_version() -> u16
 pub extern "C" fn rack_fresh() -> RackState
     ensures { result ≡ plain_state fresh_state }
 {
-    plain::state(states::fresh())
+    RackState::from(states::fresh())
 }
 
 // One record: `stream::step` on the state that the numbers stand for.
@@ -53,22 +55,23 @@ pub extern "C" fn rack_step(
 ) -> RackReply
     ensures { RackPromise state bytes.now (lent_of (held flat.old ends.old shot.old) window.old work.old (six_of x_marks.old x_forms.old x_correction.old z_marks.old z_forms.old z_correction.old)) (lent_of (held flat.new ends.new shot.new) window.new work.new (six_of x_marks.new x_forms.new x_correction.new z_marks.new z_forms.new z_correction.new)) result }
 {
-    let reply = stream::step(
-        plain::state_of(state),
+    let mut passed = PassedLists {
         flat,
         ends,
         shot,
         window,
-        work,
-        x_marks,
-        x_forms,
-        x_correction,
-        z_marks,
-        z_forms,
-        z_correction,
-        bytes,
-    );
-    plain::reply(reply)
+    };
+    let mut x = LentHalf {
+        marks: x_marks,
+        forms: x_forms,
+        correction: x_correction,
+    };
+    let mut z = LentHalf {
+        marks: z_marks,
+        forms: z_forms,
+        correction: z_correction,
+    };
+    RackReply::from(stream::step(State::from(state), &mut passed, work, &mut x, &mut z, bytes))
 }
 
 // Candidate `number` of a half: `candidates::give` on the word that the number stands for. 0 where it was given, else the number of the refusal.
@@ -93,6 +96,5 @@ pub extern "C" fn rack_candidate(
 pub extern "C" fn rack_window(state: RackState, window: &[u16]) -> RackCounts
     ensures { result ≡ rack_window state window.now }
 {
-    let read = window::read(plain::state_of(state), window);
-    counts::window(read)
+    counts::window(window::read(State::from(state), window))
 }

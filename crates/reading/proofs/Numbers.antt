@@ -1,4 +1,4 @@
--- A number past a record's end, and the numbers of a row's body, read one after another. Assumes nothing.
+-- The numbers of a row's body, read one after another. Assumes nothing.
 use mathlib.Core.Path.{◌≡◌, refl, ap, ◌∙◌, subst}
 use mathlib.Core.List.{List, [], ◌∷◌, ◌++◌}
 use mathlib.Core.Logic.{⊎_elim}
@@ -6,16 +6,10 @@ use Prim.Native.Nat.{ℕ, zero, suc, ◌+◌, ◌*◌, ◌<◌, ◌≤◌}
 use native.Mathlib.Nat.{le_antisymm}
 use native.Mathlib.Numerals.{add-one}
 use native.Mathlib.Omega.{arith}
-use lib.ListN.{length, get_or, take, set, replicate, get_or-eq_default}
+use lib.ListN.{length, get_or, take, set, replicate}
 use lib.Seq.{take-suc-set, get_or-set_other}
 use Rattle.records.specs.Records.{number, numbers}
 use Rattle.reading.specs.Shapes.{RowBody}
-
-pub number_past : (bytes : List ℕ) (i : ℕ) → length bytes ≤ i → 0 ≡ number bytes i
-unfolding number
-number_past bytes i h =
-    let one : length bytes ≤ i + 1 = omega arith in
-    rw (get_or-eq_default {A = ℕ} bytes 0 {n = i} h, get_or-eq_default {A = ℕ} bytes 0 {n = i + 1} one)
 
 pub numbers_length : (bytes : List ℕ) (i w : ℕ) → length (numbers bytes i w) ≡ w
 numbers_length bytes i zero = refl

@@ -8,16 +8,16 @@ use Rattle.std.specs.Prelude.{◌≡◌, Bool, true, false, ◌⊎◌, List, ℕ
 use Rattle.std.proofs.Math.Option.{Option, none, some}
 use Rattle.reading.specs.declared.Shape.{Shape}
 use Rattle.reading.specs.declared.Shape.TheVariants.{Unknown, Wrong, Size, Lose, Light, Unread, Decode, Logical}
-use Rattle.records.specs.Records.{pauli, lost, lit, unread, Kind, sizes, decode, logical, row_of, member, unknown, wrong, size, row, add, report, encodes, number, numbers, record_of}
+use Rattle.records.specs.Records.{lost, lit, unread, Kind, sizes, decode, logical, row_of, member, unknown, wrong, size, row, add, report, encodes, number, numbers, record_of}
 
 abbrev pub kind_as : Shape → Option Kind
 kind_as Unknown = none
 kind_as Wrong = none
 kind_as Size = some sizes
-kind_as (Shape.Row x w) = some (row_of (pauli x) w)
+kind_as (Shape.Row x w) = some (row_of x w)
 kind_as Lose = some (member lost)
-kind_as (Light x) = some (member (lit (pauli x)))
-kind_as (Unread x) = some (member (unread (pauli x)))
+kind_as (Light x) = some (member (lit x))
+kind_as (Unread x) = some (member (unread x))
 kind_as Decode = some decode
 kind_as Logical = some logical
 
@@ -59,10 +59,10 @@ unfoldable pub RecordAs : List ℕ → Shape → Type 0
 RecordAs bytes Unknown = record_of bytes ≡ unknown
 RecordAs bytes Wrong = record_of bytes ≡ wrong
 RecordAs bytes Size = record_of bytes ≡ size (number bytes 1) (number bytes 3) (number bytes 5)
-RecordAs bytes (Shape.Row x w) = (record_of bytes ≡ row (pauli x) (numbers bytes 1 w)) × (w ≤ 16)
+RecordAs bytes (Shape.Row x w) = (record_of bytes ≡ row x (numbers bytes 1 w)) × (w ≤ 16)
 RecordAs bytes Lose = record_of bytes ≡ add lost (number bytes 1)
-RecordAs bytes (Light x) = record_of bytes ≡ add (lit (pauli x)) (number bytes 1)
-RecordAs bytes (Unread x) = record_of bytes ≡ add (unread (pauli x)) (number bytes 1)
+RecordAs bytes (Light x) = record_of bytes ≡ add (lit x) (number bytes 1)
+RecordAs bytes (Unread x) = record_of bytes ≡ add (unread x) (number bytes 1)
 RecordAs bytes Decode = record_of bytes ≡ report (get_or bytes 1 0) (number bytes 2)
 RecordAs bytes Logical = record_of bytes ≡ encodes (number bytes 1)
 

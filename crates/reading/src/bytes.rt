@@ -1,5 +1,5 @@
 // The numbers in a record's bytes.
-ghost use Rattle.std.specs.Prelude.{◌≡◌, ◌<◌, ◌≤◌, get_or};
+ghost use Rattle.std.specs.Prelude.{◌≡◌, get_or};
 ghost use Rattle.records.specs.Records;
 ghost use Rattle.reading.specs.Shapes.{RowBody};
 
@@ -7,28 +7,19 @@ ghost use Rattle.reading.specs.Shapes.{RowBody};
 pub fn byte_at(bytes: &[u8], i: usize) -> u8
     ensures { result ≡ get_or bytes.now i 0 }
 {
-    if bytes.len() <= i {
-        return 0;
-    }
-    bytes[i]
-}
-
-// A byte as a number, with its bound.
-fn wide(b: u8) -> u16
-    ensures { (result ≡ b) × (result < 256) }
-{
-    b as u16
+    bytes.get(i).copied().unwrap_or(0)
 }
 
 // The number at byte i: two bytes, low byte first; past the end both are 0.
+#[tactic(auto, unfolding(records::specs::Records::number))]
 pub fn number(bytes: &[u8], i: usize) -> u16
     ensures { result ≡ Records.number bytes.now i }
 {
     if bytes.len() <= i {
         return 0;
     }
-    let low = wide(byte_at(bytes, i));
-    let high = wide(byte_at(bytes, i + 1));
+    let low = u16::from(byte_at(bytes, i));
+    let high = u16::from(byte_at(bytes, i + 1));
     low + 256 * high
 }
 
@@ -40,10 +31,8 @@ pub fn qubits_of(bytes: &[u8], w: usize) -> [u16; 16]
     if 16 < w {
         return qubits;
     }
-    let mut i: usize = 0;
-    while i < w {
+    for i in 0..w {
         qubits[i] = number(bytes, 1 + 2 * i);
-        i += 1;
     }
     qubits
 }

@@ -5,18 +5,19 @@ mod bytes;
 mod shapes;
 
 pub use bytes::{byte_at, number, qubits_of};
-pub use shapes::{is_decode, shape_of, whole_length};
+use records::Pauli;
+pub use shapes::{shape_of, whole_length};
 
-// What a record's bytes are: of no kind, not of its length, or of a kind; rows with whether they are X rows and their number of qubits.
-#[derive(Clone, Copy)]
+// What a record's bytes are: of no kind, not of its length, or of a kind; rows with their kind and their number of qubits.
+#[derive(Clone, Copy, PartialEq, Eq)]
 pub enum Shape {
     Unknown,
     Wrong,
     Size,
-    Row(bool, u8),
+    Row(Pauli, u8),
     Lose,
-    Light(bool),
-    Unread(bool),
+    Light(Pauli),
+    Unread(Pauli),
     Decode,
     Logical,
 }

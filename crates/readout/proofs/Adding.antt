@@ -2,7 +2,7 @@
 --   mark-refused, mark-taken  the ways through `add`
 --   adds                      what `add` does is what the table says of the record, for every set
 use mathlib.Core.Path.{◌≡◌, refl, sym, ap, ◌∙◌, subst}
-use mathlib.Core.Bool.{Bool, true, false, cond}
+use mathlib.Core.Bool.{Bool, true, false}
 use mathlib.Core.Option.{none, some}
 use mathlib.Core.List.{List}
 use Prim.Native.Nat.{ℕ, ◌+◌, ◌≤◌}
@@ -17,8 +17,9 @@ use Rattle.records.specs.declared.Refusal.{Refusal}
 use Rattle.records.specs.declared.Refusal.TheVariants.{Codeless, Range, Twice, Short}
 use Rattle.records.specs.declared.Answer.TheVariants.{Taken}
 use Rattle.records.specs.declared.Reply.{Reply}
-use Rattle.records.specs.Records.{Pauli, pauli, Set, add}
-use Rattle.records.specs.History.{Code, sizes_of, Shot, domain_of, size_of, already, joined, History, ready}
+use Rattle.records.specs.declared.Pauli.{Pauli}
+use Rattle.records.specs.Records.{Set, lit, unread, add}
+use Rattle.records.specs.History.{Code, sizes_of, Shot, rows, domain_of, size_of, already, joined, History, ready}
 use Rattle.records.specs.Table.{refusal}
 use Rattle.records.specs.Lists.{held, first_numbers, element, Holds, Represents}
 use Rattle.records.specs.States.{without_code, opened_of, saying}
@@ -27,7 +28,9 @@ use Rattle.records.specs.Steps.{Answered, Does}
 use Rattle.records.proofs.HeldStates.{no_code, with_code}
 use Rattle.records.proofs.Answers.{answered, answered_refused, says_refused, says_nothing}
 use Rattle.records.proofs.Range.{small}
-use Rattle.readout.specs.Readout.{Begun, marked?, row_set, mark_reply, Marked, Adds}
+use Rattle.readout.specs.declared.RowReading.{RowReading}
+use Rattle.readout.specs.declared.RowReading.TheVariants.{Lit, Unread}
+use Rattle.readout.specs.Readout.{Begun, marked?, row_element, row_set, mark_reply, Marked, Adds}
 use Rattle.readout.proofs.Shots.{already_at, left_begun, left_joined, holds_opened}
 
 abbrev pub taken_of : State → Reply
@@ -183,28 +186,14 @@ module _ (u : Set) (k : ℕ) (short : Bool) (st : State) (old new : List ℕ) (r
 ----------------------------------------------------------------------
 -- A row of a kind
 
-count_of : (unread x : Bool) (z : Sizes) → cond x z.x z.z ≡ size_of (domain_of (row_set unread (pauli x))) z
-count_of true true z = refl
-count_of true false z = refl
-count_of false true z = refl
-count_of false false z = refl
-
-first_of_lem : (unread x : Bool) (z : Sizes) → cond x 1024 (1024 + z.x) ≡ first_numbers (domain_of (row_set unread (pauli x))) z
-first_of_lem true true z = refl
-first_of_lem true false z = refl
-first_of_lem false true z = refl
-first_of_lem false false z = refl
-
-element_of : (unread : Bool) (p : Pauli) → cond unread 2 1 ≡ element (row_set unread p)
-element_of true p = refl
-element_of false p = refl
-
-pub notes : (unread x : Bool) (k : ℕ) (short : Bool) (st : State) (old new : List ℕ) (r : Reply) (e count first : ℕ) → e ≡ cond unread 2 1
-    → count ≡ cond x st.sizes.x st.sizes.z → first ≡ cond x 1024 (1024 + st.sizes.x) → Marked short e count first k st old new r
-    → Adds short (row_set unread (pauli x)) k st old new r
-notes unread x k short st old new r e count first i j f m =
-    let u = row_set unread (pauli x) in
-    adds u k short st old new r
-    (subst (λ (n : ℕ). Marked short n (size_of (domain_of u) st.sizes) (first_numbers (domain_of u) st.sizes) k st old new r) (i ∙ element_of unread (pauli x))
-    (subst (λ (n : ℕ). Marked short e n (first_numbers (domain_of u) st.sizes) k st old new r) (j ∙ count_of unread x st.sizes)
-    (subst (λ (n : ℕ). Marked short e count n k st old new r) (f ∙ first_of_lem unread x st.sizes) m)))
+pub notes : (m : RowReading) (p : Pauli) (k : ℕ) (short : Bool) (st : State) (old new : List ℕ) (r : Reply) (e count first : ℕ) → e ≡ row_element m
+    → count ≡ size_of (rows p) st.sizes → first ≡ first_numbers (rows p) st.sizes → Marked short e count first k st old new r
+    → Adds short (row_set m p) k st old new r
+notes m p k short st old new r e count first i j f v =
+    of m (subst (λ (n : ℕ). Marked short n (size_of (rows p) st.sizes) (first_numbers (rows p) st.sizes) k st old new r) i
+    (subst (λ (n : ℕ). Marked short e n (first_numbers (rows p) st.sizes) k st old new r) j
+    (subst (λ (n : ℕ). Marked short e count n k st old new r) f v)))
+  where
+    of : (m : RowReading) → Marked short (row_element m) (size_of (rows p) st.sizes) (first_numbers (rows p) st.sizes) k st old new r → Adds short (row_set m p) k st old new r
+    of Unread v = adds (unread p) k short st old new r v
+    of Lit v = adds (lit p) k short st old new r v

@@ -15,7 +15,8 @@ use Rattle.binary.proofs.Bits.{bit, never}
 use Rattle.machine.specs.Machine.{put}
 use Rattle.records.specs.declared.Sizes.{Sizes}
 use Rattle.records.specs.declared.State.{State}
-use Rattle.records.specs.Records.{X, Z, Set, lost, lit, unread}
+use Rattle.records.specs.declared.Pauli.TheVariants.{X, Z}
+use Rattle.records.specs.Records.{Set, lost, lit, unread}
 use Rattle.records.specs.History.{Code, row_count, sizes_of, Shot, Domain, qubits, rows, domain_of, size_of, already, adding, joined}
 use Rattle.records.specs.Lists.{held, first_numbers, element, marks, HeldShot, NoShot, ShotIn, Holds}
 use Rattle.records.specs.States.{opened_of}

@@ -1,6 +1,6 @@
 -- What the records of a shot do to its list.
 --   Begun      a list that an earlier shot left is cleared, as far as the code has qubits and rows
---   row_set     the set of a row that is unread or else lit
+--   row_set     the set of a row that is unread or lit; row_element: its element
 --   mark_reply  the reply to a number of a set, by the tests in the table's order
 --   Marked     what taking up a number of a set does
 --   Adds       the same, as the record is meant
@@ -10,11 +10,14 @@ use Rattle.records.specs.declared.Refusal.{Refusal}
 use Rattle.records.specs.declared.Refusal.TheVariants.{Codeless, Range, Twice, Short}
 use Rattle.records.specs.declared.Answer.TheVariants.{Refused, Taken}
 use Rattle.records.specs.declared.Reply.{Reply}
-use Rattle.records.specs.Records.{Pauli, Set, lit, unread, add}
+use Rattle.records.specs.declared.Pauli.{Pauli}
+use Rattle.records.specs.Records.{Set, lit, unread, add}
 use Rattle.records.specs.Lists.{held}
 use Rattle.records.specs.States.{without_code, opened_of, saying}
 use Rattle.records.specs.Promise.{Says}
 use Rattle.records.specs.Steps.{Does}
+use Rattle.readout.specs.declared.RowReading.{RowReading}
+use Rattle.readout.specs.declared.RowReading.TheVariants.{Lit, Unread}
 
 ----------------------------------------------------------------------
 -- The list
@@ -33,9 +36,13 @@ marked? stale shot at = not stale && not (eqb (get_or shot at 0) 0)
 ----------------------------------------------------------------------
 -- A number of a set
 
-abbrev pub row_set : Bool → Pauli → Set
-row_set true p = unread p
-row_set false p = lit p
+abbrev pub row_set : RowReading → Pauli → Set
+row_set Unread p = unread p
+row_set Lit p = lit p
+
+abbrev pub row_element : RowReading → ℕ
+row_element Unread = 2
+row_element Lit = 1
 
 -- Number k of `count`, whose elements begin at `first`.
 unfoldable pub mark_reply : Bool → ℕ → ℕ → ℕ → State → List ℕ → Reply

@@ -1,26 +1,46 @@
 // The records of a shot: a lost qubit, a lit row, an unread row.
 #![tactic(auto)]
 
-ghost use Rattle.std.specs.Prelude.{◌≡◌, cond, ◌+◌, ◌≤◌, set};
-ghost use Rattle.records.specs.Records.{pauli, lost};
-ghost use Rattle.readout.specs.Readout.{Begun, marked?, row_set, Marked, Adds};
+ghost use Rattle.std.specs.Prelude.{◌≡◌, ◌≤◌, set};
+ghost use Rattle.records.specs.Records.{lost};
+ghost use Rattle.records.specs.History.{rows, size_of};
+ghost use Rattle.records.specs.Lists.{first_numbers};
+ghost use Rattle.readout.specs.Readout.{Begun, marked?, row_element, row_set, Marked, Adds};
 
 use code::{KindRow, Qubit};
-use lists::clear_bytes;
-use records::{Answer, Refusal, Reply, Sizes, State};
+use lists::clear;
+use records::{Answer, Pauli, Refusal, Reply, Sizes, State};
 use rules::codeless;
 use states::{opened, refused};
+
+// What is told of a row: that it is lit, or that it was not read.
+#[derive(Clone, Copy, PartialEq, Eq)]
+pub enum RowReading {
+    Lit,
+    Unread,
+}
+
+impl RowReading {
+    // A row's element.
+    fn element(self) -> u8
+        ensures { result ≡ row_element self }
+    {
+        match self {
+            RowReading::Lit => 1,
+            RowReading::Unread => 2,
+        }
+    }
+}
 
 // A list that an earlier shot left is cleared, so that it holds this one.
 pub fn begin(st: State, shot: &mut [u8])
     ensures { Begun st shot.old shot.new }
 {
-    let stale = st.stale;
-    if stale {
+    if st.stale {
         let sizes = st.sizes;
         let rows = sizes.x as usize + sizes.z as usize;
-        clear_bytes(shot, 0, sizes.n as usize);
-        clear_bytes(shot, 1024, 1024 + rows);
+        clear(shot, 0, sizes.n as usize);
+        clear(shot, 1024, 1024 + rows);
     }
 }
 
@@ -28,13 +48,7 @@ pub fn begin(st: State, shot: &mut [u8])
 fn marked(stale: bool, shot: &[u8], at: usize) -> bool
     ensures { result ≡ marked? stale shot.now at }
 {
-    if stale {
-        return false;
-    }
-    if shot.len() <= at {
-        return false;
-    }
-    shot[at] != 0
+    !stale && shot.get(at).copied().unwrap_or(0) != 0
 }
 
 // An element marked.
@@ -60,17 +74,17 @@ fn add(
     ensures { Marked short element count first k st shot.old shot.new result }
 {
     if codeless(st) {
-        return refused(st, Refusal::Codeless, false);
+        return refused(st, Refusal::Codeless);
     }
     if count <= k {
-        return refused(st, Refusal::Range, false);
+        return refused(st, Refusal::Range);
     }
     if short {
-        return refused(st, Refusal::Short, false);
+        return refused(st, Refusal::Short);
     }
     let at = first + k as usize;
     if marked(st.stale, shot, at) {
-        return refused(st, Refusal::Twice, false);
+        return refused(st, Refusal::Twice);
     }
     begin(st, shot);
     mark(shot, at, element);
@@ -84,53 +98,41 @@ fn add(
 pub fn lose(st: State, q: Qubit, shot: &mut [u8], short: bool) -> Reply
     ensures { Adds short lost q.0 st shot.old shot.new result }
 {
-    let sizes = st.sizes;
-    add(st, 1, sizes.n, 0, q.0, shot, short)
+    add(st, 1, st.sizes.n, 0, q.0, shot, short)
 }
 
 // How many rows there are of a kind.
-fn rows_of(sizes: Sizes, x_kind: bool) -> u16
-    ensures { result ≡ cond x_kind sizes.x sizes.z }
+fn rows_of(sizes: Sizes, kind: Pauli) -> u16
+    ensures { result ≡ size_of (rows kind) sizes }
 {
-    if x_kind {
-        return sizes.x;
+    match kind {
+        Pauli::X => sizes.x,
+        Pauli::Z => sizes.z,
     }
-    sizes.z
 }
 
 // Where the shot's list has the rows of a kind: the Z rows follow the X rows.
-fn first_of(sizes: Sizes, x_kind: bool) -> usize
-    ensures { (result ≡ cond x_kind 1024 (1024 + sizes.x)) × (result ≤ 131072) }
+fn first_of(sizes: Sizes, kind: Pauli) -> usize
+    ensures { (result ≡ first_numbers (rows kind) sizes) × (result ≤ 131072) }
 {
-    if x_kind {
-        return 1024;
+    match kind {
+        Pauli::X => 1024,
+        Pauli::Z => 1024 + sizes.x as usize,
     }
-    1024 + sizes.x as usize
 }
 
-// A row's element: 2 if it is unread, 1 if it is lit.
-fn element_of(unread: bool) -> u8
-    ensures { result ≡ cond unread 2 1 }
-{
-    if unread {
-        return 2;
-    }
-    1
-}
-
-// An unread or else a lit row of a kind, X rows or else Z rows, by its number within the kind.
+// A row that is lit or unread, of a kind, by its number within the kind.
 pub fn note_row(
     st: State,
-    unread: bool,
-    x_kind: bool,
+    reading: RowReading,
+    kind: Pauli,
     r: KindRow,
     shot: &mut [u8],
     short: bool,
 ) -> Reply
-    ensures { Adds short (row_set unread (pauli x_kind)) r.0 st shot.old shot.new result }
+    ensures { Adds short (row_set reading kind) r.0 st shot.old shot.new result }
 {
-    let sizes = st.sizes;
-    let count = rows_of(sizes, x_kind);
-    let first = first_of(sizes, x_kind);
-    add(st, element_of(unread), count, first, r.0, shot, short)
+    let count = rows_of(st.sizes, kind);
+    let first = first_of(st.sizes, kind);
+    add(st, reading.element(), count, first, r.0, shot, short)
 }

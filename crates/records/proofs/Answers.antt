@@ -17,7 +17,8 @@ use Rattle.records.specs.declared.Report.{Report}
 use Rattle.records.specs.declared.Answer.{Answer}
 use Rattle.records.specs.declared.Answer.TheVariants.{Refused, Taken, Complete, Decoded}
 use Rattle.records.specs.declared.Reply.{Reply}
-use Rattle.records.specs.Records.{Pauli, Record, unknown, wrong, size, row, add, report, encodes}
+use Rattle.records.specs.declared.Pauli.{Pauli}
+use Rattle.records.specs.Records.{Record, unknown, wrong, size, row, add, report, encodes}
 use Rattle.records.specs.History.{History, empty, loading, ready}
 use Rattle.records.specs.Table.{refusal, takes, is_report, is_readout, afterwards}
 use Rattle.records.specs.Lists.{Lists, Six, Lent, lent_of, short_lists, short_six, Represents}

@@ -3,5 +3,4 @@ pub mod Answers
 pub mod Range
 pub mod Lowest
 pub mod Numbers
-pub mod KindBytes
 pub mod Window

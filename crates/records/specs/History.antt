@@ -9,7 +9,9 @@ use Rattle.std.specs.Prelude.{Bool, true, false, ◌||◌, cond, List, [], ◌�
 use Rattle.binary.specs.Meaning.{Row}
 use Rattle.machine.specs.Machine.{Half, put}
 use Rattle.records.specs.declared.Sizes.{Sizes}
-use Rattle.records.specs.Records.{Pauli, X, Z, Set, lost, lit, unread}
+use Rattle.records.specs.declared.Pauli.{Pauli}
+use Rattle.records.specs.declared.Pauli.TheVariants.{X, Z}
+use Rattle.records.specs.Records.{Set, lost, lit, unread}
 
 pub record Code : Type 0 where
   pub n : ℕ

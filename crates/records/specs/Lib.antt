@@ -7,3 +7,4 @@ pub mod States
 pub mod Window
 pub mod Promise
 pub mod Steps
+pub mod Lent

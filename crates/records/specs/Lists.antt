@@ -14,7 +14,8 @@ use Rattle.machine.specs.Lists.{HalfLists}
 use Rattle.records.specs.declared.Sizes.{Sizes}
 use Rattle.records.specs.declared.Phase.TheVariants.{Empty, Loading, Ready}
 use Rattle.records.specs.declared.State.{State}
-use Rattle.records.specs.Records.{X, Z, Set, lost, lit, unread}
+use Rattle.records.specs.declared.Pauli.TheVariants.{X, Z}
+use Rattle.records.specs.Records.{Set, lost, lit, unread}
 use Rattle.records.specs.History.{Code, sizes_of, Shot, Domain, qubits, rows, domain_of, size_of, already, History, empty, loading, ready}
 use Rattle.records.specs.Table.{in_range}
 

@@ -19,7 +19,8 @@ use Rattle.records.specs.declared.Refusal.{Refusal}
 use Rattle.records.specs.declared.Answer.{Answer}
 use Rattle.records.specs.declared.Answer.TheVariants.{Refused, Taken, Complete, Decoded}
 use Rattle.records.specs.declared.Reply.{Reply}
-use Rattle.records.specs.Records.{X, Z, Record, unknown, wrong, size, row, add, report, encodes, record_of}
+use Rattle.records.specs.declared.Pauli.TheVariants.{X, Z}
+use Rattle.records.specs.Records.{Record, unknown, wrong, size, row, add, report, encodes, record_of}
 use Rattle.records.specs.History.{Code, row_count, sizes_of, Shot, History, empty, loading, ready, half}
 use Rattle.records.specs.Table.{tests, refusal, takes, is_row, is_report, is_readout, afterwards}
 use Rattle.records.specs.States.{left_by}

@@ -1,5 +1,4 @@
 -- Records (document 01, "Records"; document 02, requests a and i): one byte of kind, then a body whose length the kind fixes.
---   Pauli       X or Z: the kind of a row, and of a half
 --   Set         the sets of a shot: the lost qubits, the lit rows and the unread rows of a kind
 --   Kind        the kinds of record
 --   kind_of      the kind that a byte names
@@ -7,17 +6,11 @@
 --   whole_length the length of a record, its kind byte counted; of an unknown kind no body is read
 --   Record      a record read: of no kind, not of its length, or a kind with the numbers of its body
 --   record_of    the record that bytes are
-use Rattle.std.specs.Prelude.{Bool, true, false, ◌&&◌, cond, List, [], ◌∷◌, ℕ, zero, suc, ◌+◌, ◌*◌, ◌-◌, eqb, leb, length, get_or}
+use Rattle.std.specs.Prelude.{Bool, ◌&&◌, cond, List, [], ◌∷◌, ℕ, zero, suc, ◌+◌, ◌*◌, ◌-◌, eqb, leb, length, get_or}
 use Rattle.std.proofs.Math.Option.{Option, none, some}
 use Rattle.binary.specs.Meaning.{Row}
-
-pub data Pauli : Type 0 where
-  X Z : Pauli
-
--- X, or else Z.
-abbrev pub pauli : Bool → Pauli
-pauli true = X
-pauli false = Z
+use Rattle.records.specs.declared.Pauli.{Pauli}
+use Rattle.records.specs.declared.Pauli.TheVariants.{X, Z}
 
 pub data Set : Type 0 where
   lost : Set

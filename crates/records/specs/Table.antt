@@ -16,7 +16,9 @@ use Rattle.code.specs.Tests.{ascending?}
 use Rattle.records.specs.declared.Refusal.{Refusal}
 use Rattle.records.specs.declared.Refusal.TheVariants.{Unknown, Length, Size, Place, Clash, Codeless, Range, Twice, Spoiled, Short, Encoded}
 use Rattle.records.specs.Lowest.{lowest, Numbered}
-use Rattle.records.specs.Records.{Pauli, X, Z, Record, unknown, wrong, size, row, add, report, encodes}
+use Rattle.records.specs.declared.Pauli.{Pauli}
+use Rattle.records.specs.declared.Pauli.TheVariants.{X, Z}
+use Rattle.records.specs.Records.{Record, unknown, wrong, size, row, add, report, encodes}
 use Rattle.records.specs.History.{Code, Shot, History, empty, loading, ready, sizes_of, domain_of, size_of, already, on_shot, joined, spoil, end_shot, loaded, add_row}
 
 -- 10 is not used, and 13 to 16 are not of records.

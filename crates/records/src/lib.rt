@@ -6,8 +6,15 @@ use machine::HalfReport;
 // The version of the records, one more whenever what bytes mean changes.
 pub const VERSION: u16 = 8;
 
+// The kind of a row, and of a half.
+#[derive(Clone, Copy, PartialEq, Eq)]
+pub enum Pauli {
+    X,
+    Z,
+}
+
 // Why a record is refused (document 01, the table).
-#[derive(Clone, Copy)]
+#[derive(Clone, Copy, PartialEq, Eq)]
 pub enum Refusal {
     Unknown,
     Length,
@@ -24,7 +31,7 @@ pub enum Refusal {
 }
 
 // A code's sizes: qubits, X rows, Z rows.
-#[derive(Clone, Copy)]
+#[derive(Clone, Copy, PartialEq, Eq, Default)]
 pub struct Sizes {
     pub n: u16,
     pub x: u16,
@@ -48,8 +55,9 @@ pub enum Answer {
 }
 
 // Whether there is a code: none, one that is loading, or one that is complete, with an open shot.
-#[derive(Clone, Copy)]
+#[derive(Clone, Copy, PartialEq, Eq, Default)]
 pub enum Phase {
+    #[default]
     Empty,
     Loading,
     Ready,
@@ -58,7 +66,7 @@ pub enum Phase {
 // What passes from call to call beside the lists: the sizes announced, the rows taken so far, whether some X and Z rows among them share an
 // odd number of qubits, whether the shot is spoiled, whether the shot is empty, whatever an earlier one left in its list, and how many reports have come since
 // the last accepted kind 1, after 511 again 256.
-#[derive(Clone, Copy)]
+#[derive(Clone, Copy, PartialEq, Eq, Default)]
 pub struct State {
     pub phase: Phase,
     pub sizes: Sizes,
@@ -67,6 +75,15 @@ pub struct State {
     pub spoiled: bool,
     pub stale: bool,
     pub reports: u16,
+}
+
+// The lists that pass from call to call: of the code, the shot and the last 256 reports.
+#[derive(Drop)]
+pub struct PassedLists<'a> {
+    pub flat: &'a mut [u16],
+    pub ends: &'a mut [u16],
+    pub shot: &'a mut [u8],
+    pub window: &'a mut [u16],
 }
 
 // What a call hands back.

@@ -8,7 +8,7 @@ ghost use Rattle.records.specs.States.{without_code};
 ghost use Rattle.records.specs.Window.{word_number};
 
 use machine::Word;
-use records::{Phase, Refusal, State};
+use records::{Phase, Refusal, Sizes, State};
 
 // The table's number of a refusal.
 pub fn refusal_number(r: Refusal) -> u8
@@ -44,34 +44,21 @@ pub fn word_number(w: Word) -> u16
 }
 
 // Whether sizes are in range.
-pub fn in_range(n: u16, x: u16, z: u16) -> bool
-    ensures { result ≡ in_range n x z }
+pub fn in_range(sizes: Sizes) -> bool
+    ensures { result ≡ in_range sizes.n sizes.x sizes.z }
 {
-    if n < 1 {
-        return false;
-    }
-    if 1024 < n {
-        return false;
-    }
-    if 512 < x {
-        return false;
-    }
-    z <= 512
+    1 <= sizes.n && sizes.n <= 1024 && sizes.x <= 512 && sizes.z <= 512
 }
 
 // Whether there is no complete code.
 pub fn codeless(st: State) -> bool
     ensures { result ≡ without_code st.phase }
 {
-    let phase = st.phase;
-    match phase {
-        Phase::Empty => true,
-        Phase::Loading => true,
-        Phase::Ready => false,
-    }
+    st.phase != Phase::Ready
 }
 
 // Whether a list of code, shot, window or work is below its least length.
+#[tactic(auto, unfolding(records::specs::Lists::short_lists))]
 pub fn short_lists(flat: &[u16], ends: &[u16], shot: &[u8], window: &[u16], work: &[u64]) -> bool
     ensures { result ≡ short_lists (held flat.now ends.now shot.now) (length window.now) (length work.now) }
 {

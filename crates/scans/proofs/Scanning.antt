@@ -6,7 +6,7 @@ use mathlib.Core.Logic.{⊎_elim}
 use Prim.Native.Nat.{ℕ, suc, ◌+◌, ◌≤◌, ◌<◌}
 use native.Mathlib.Numerals.{add-one}
 use native.Mathlib.Omega.{arith}
-use borrow.Author.Tests.{lt-ltb, le-ltb, ltb-true, le-leb, lt-leb, ne_eqb}
+use borrow.Author.Tests.{lt-ltb, le-ltb, ltb-true, le-leb, ne_eqb}
 use borrow.Author.Tests
 use lib.Dec.{eqb, ltb}
 use lib.ListN.{length, get_or, set, drop, drop_of_length-le, get_or-eq_default}
@@ -27,9 +27,6 @@ use Rattle.scans.specs.Scans.{OpenFrom, count_marks, OneLess}
 pub open_past : (n : ℕ) (marks : List ℕ) (q : ℕ) → n ≤ q → false ≡ is_open (view n marks) q
 open_past n marks q h = rw (le-ltb q n h)
 
-pub shut : (n q : ℕ) → false ≡ eqb (cond (ltb q n) 0 0) 4
-shut n q = bit (ltb q n) (λ e. rw e) (λ e. rw e)
-
 pub open_read : (n : ℕ) (marks : List ℕ) (q : ℕ) → q < n → eqb (get_or marks q 0) 4 ≡ is_open (view n marks) q
 open_read n marks q h = rw (lt-ltb q n h)
 
@@ -43,9 +40,6 @@ open_inside n marks q e = ⊎_elim (λ (h : q < length marks). h) (λ (h : lengt
 
 ----------------------------------------------------------------------
 -- Marks counted
-
-pub short_marks : (n : ℕ) (marks : List ℕ) (m : ℕ) → length marks < n → 0 ≡ count_marks n marks m
-short_marks n marks m h = rw (lt-leb n (length marks) h)
 
 pub counted : (n : ℕ) (marks : List ℕ) (m total : ℕ) → n ≤ length marks → total ≡ marked n (view n marks) m → total ≡ count_marks n marks m
 counted n marks m total h e = rw (le-leb n (length marks) h) e

@@ -14,6 +14,7 @@ use Rattle.binary.specs.Meaning.{Qubits}
 use Rattle.packing.specs.Packed.{cell}
 use Rattle.columns.specs.Planes.{number}
 use Rattle.columns.specs.Columns.{untaken, rows_with, Numbered}
+use Rattle.std.specs.Prelude
 use Rattle.choosing.specs.declared.Shortest.{Shortest}
 use Rattle.choosing.specs.Choosing.{ShortestOf, room?}
 use Rattle.choosing.specs.Choosing as choosing
@@ -26,6 +27,9 @@ use Rattle.numbering.proofs.Numbered.{cell_same}
 use Rattle.search.proofs.Rows.{none_left}
 use Rattle.search.proofs.Choices.{first_none, shortest_none, shortest_some}
 use Rattle.search.proofs.Stands.{numbered_less, untaken_word, columns_same, row_none, row_left, row_same, stand_eq, same_eq, same_trans, take_same, take_untaken, takes_stand}
+
+pub not_found : {w : ℕ} {m m' : List ℕ} {r : Prelude.Option Shortest} → choosing.TakesFound w m m' r → r ≡ Prelude.None → choosing.Takes w m m' (record { column = 0; rows = 1024 })
+not_found {w} {m} {m'} t e = subst (λ (x : Prelude.Option Shortest). choosing.TakesFound w m m' x) e t
 
 ----------------------------------------------------------------------
 -- The shortest column is taken
@@ -56,10 +60,6 @@ module _ (n w rows top : ℕ) (m₀ m : List ℕ) (found : Shortest) (wide : n �
   none_taken e =
       ap (λ (r : Option ℕ). step_by rows r (stand_of n w rows top m₀)) (shortest_none (column_length rows (stand_of n w rows top m₀)) (λ q. ltb q n && untaken m₀ q) n
       (λ p l. bit (ltb p n && untaken m₀ p) (λ d. absurd (omega (arith, (so.least p (omega arith) (is_untaken p d)).0))) (λ d. d)))
-
-  -- Otherwise the column has fewer rows.
-  pub fewer : (found.rows ≡ 1024 → ⊥) → found.rows < 1024
-  fewer d = ⊎_elim (λ h. h) (λ (h : 1024 ≤ found.rows). absurd (d (so.absent h).1)) (order found.rows 1024)
 
   module _ (some_left : found.rows < 1024) where
     got : (found.column < 64 * w) × (untaken m₀ found.column ≡ true) × (number m₀ found.column ≡ found.rows)

@@ -14,7 +14,7 @@ use Rattle.binary.specs.Words.{listed}
 use Rattle.packing.specs.Packed.{words_for, Packed}
 use Rattle.columns.specs.Columns.{untaken}
 use Rattle.numbering.specs.Numbering.{startable?, Started, Starts}
-use Rattle.search.specs.declared.Search.TheVariants.{Short, Made}
+use Rattle.std.specs.Prelude.{None, Some}
 use Rattle.search.specs.Route.{first, some?, clearing, steps, ascend, begin, known, route, Same}
 use Rattle.search.specs.Marked.{enough, Searched, Marked}
 use Rattle.search.specs.Search.{ColumnsIn, row_of, stand_of, Sound, Knowns, Losts}
@@ -87,7 +87,7 @@ module _ (n rows w : ℕ) (lost work work' : List ℕ) (fits : ColumnsIn n w row
 -- The end
 
 pub not_marked : (n rows : ℕ) (lost work marks : List ℕ) (b : Bool) → b ≡ enough n rows lost work marks → not b ≡ true
-    → Marked n rows lost work marks work marks Short
+    → Marked n rows lost work marks work marks None
 not_marked n rows lost work marks b e f =
     record {
       work_size = refl;
@@ -123,7 +123,7 @@ module _ (n rows w : ℕ) (lost work marks m₁ m₂ m₃ marks' : List ℕ) (to
       then : (q : ℕ) → Same (ascend rows (listed n lost) q (stand_of n w rows top m₂)) (ascend rows (listed n lost) q (known n rs (listed n lost)))
       then q = ascend_same rows (listed n lost) q (stand_of n w rows top m₂) (known n rs (listed n lost)) stands
 
-  pub all_marked : Marked n rows lost work marks m₃ marks' (Made (record { known = top; all = all }))
+  pub all_marked : Marked n rows lost work marks m₃ marks' (Some (record { known = top; all = all }))
   all_marked =
       record {
         work_size = d.long ∙ b.long ∙ a.long;

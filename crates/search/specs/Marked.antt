@@ -2,13 +2,11 @@
 --   enough     whether the lists are long enough for the search
 --   columns_of  the first columns that the work list has from element 9216 on, the latest first
 --   Marked     the fixed qubits of the rows that the work list holds are marked, by the route; if a list is too short, nothing is written
-use Rattle.std.specs.Prelude.{◌≡◌, Bool, true, false, cond, ◌&&◌, List, [], ◌∷◌, ℕ, zero, suc, ◌+◌, ◌≤◌, ◌<◌, leb, length, get_or}
+use Rattle.std.specs.Prelude.{◌≡◌, Bool, true, false, cond, ◌&&◌, List, [], ◌∷◌, ℕ, zero, suc, ◌+◌, ◌≤◌, ◌<◌, leb, length, get_or, Option, Some, None}
 use Rattle.binary.specs.Meaning.{Row, Below, fixed?}
 use Rattle.binary.specs.Words.{listed}
 use Rattle.packing.specs.Packed.{words_for, Packed}
 use Rattle.search.specs.declared.Cleared.{Cleared}
-use Rattle.search.specs.declared.Search.{Search}
-use Rattle.search.specs.declared.Search.TheVariants.{Short, Made}
 use Rattle.search.specs.Route.{known, route}
 
 -- For so many rows of n columns.
@@ -27,11 +25,11 @@ pub record Searched (n : ℕ) (rs : List Row) (lost marks work' marks' : List �
   pub taken : columns_of work' all ≡ (route n rs (listed n lost)).columns
 
 -- r is the answer.
-pub record Marked (n rows : ℕ) (lost work marks work' marks' : List ℕ) (r : Search) : Type 0 where
+pub record Marked (n rows : ℕ) (lost work marks work' marks' : List ℕ) (r : Option Cleared) : Type 0 where
   pub work_size : length work' ≡ length work
   pub size : length marks' ≡ length marks
   pub rest : (k : ℕ) → n ≤ k → get_or marks' k 0 ≡ get_or marks k 0
-  pub few : (c : Cleared) → r ≡ Made c → c.all ≤ rows
-  pub made : enough n rows lost work marks ≡ true → (before all : ℕ) × (r ≡ Made (record { known = before; all = all }))
+  pub few : (c : Cleared) → r ≡ Some c → c.all ≤ rows
+  pub made : enough n rows lost work marks ≡ true → (before all : ℕ) × (r ≡ Some (record { known = before; all = all }))
       × ((rs : List Row) → length rs ≡ rows → Packed n (words_for n) rs work → Below n rs → Searched n rs lost marks work' marks' before all)
-  pub refused : enough n rows lost work marks ≡ false → (r ≡ Short) × (work' ≡ work) × (marks' ≡ marks)
+  pub refused : enough n rows lost work marks ≡ false → (r ≡ None) × (work' ≡ work) × (marks' ≡ marks)

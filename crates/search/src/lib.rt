@@ -19,10 +19,11 @@ pub struct Cleared {
     pub all: usize,
 }
 
+// Of packed rows: how many words a row has, and how many rows there are.
 #[derive(Clone, Copy)]
-pub enum Search {
-    Short,
-    Made(Cleared),
+struct Sizes {
+    words: usize,
+    rows: usize,
 }
 
 // Bit `b` of word `k` of row `i`.
@@ -34,81 +35,78 @@ fn has_bit(m: &[u64], w: usize, i: usize, k: usize, b: usize) -> bool
 }
 
 // The first row from `top` on that has column `q`, or `rows` where there is none.
-fn find_row(m: &[u64], w: usize, top: usize, rows: usize, q: usize) -> usize
-    requires { ColumnIn w top rows q m.now }
-    ensures { First w top rows q m.now result }
+fn find_row(m: &[u64], sizes: Sizes, top: usize, q: usize) -> usize
+    requires { ColumnIn sizes.words top sizes.rows q m.now }
+    ensures { First sizes.words top sizes.rows q m.now result }
 {
     let k = q / 64;
     let b = q % 64;
-    let mut i = top;
-    while i < rows {
-        if has_bit(m, w, i, k, b) {
+    for i in top..sizes.rows {
+        if has_bit(m, sizes.words, i, k, b) {
             return i;
         }
-        i += 1;
     }
-    i
+    sizes.rows
 }
 
 // The first row past row `j` that has column `q`, or `rows` where there is none. At most `left` have it: past the last one no row is looked at.
-fn next_row(m: &[u64], w: usize, j: usize, rows: usize, q: usize, left: usize) -> usize
-    requires { (j < rows) × ColumnIn w j rows q m.now × (rows_with m.now w (j + 1) rows q ≤ left) }
-    ensures { First w (j + 1) rows q m.now result }
+fn next_row(m: &[u64], sizes: Sizes, j: usize, q: usize, left: usize) -> usize
+    requires { (j < sizes.rows) × ColumnIn sizes.words j sizes.rows q m.now × (rows_with m.now sizes.words (j + 1) sizes.rows q ≤ left) }
+    ensures { First sizes.words (j + 1) sizes.rows q m.now result }
 {
     if left == 0 {
-        return rows;
+        return sizes.rows;
     }
-    find_row(m, w, j + 1, rows, q)
+    find_row(m, sizes, j + 1, q)
 }
 
 // Row `i` is added to each later row that has column `q`, of which there are at most `most`, and is counted no more: it is merged into the first of them, or
 // emptied, where there is none.
-fn leave(m: &mut [u64], w: usize, i: usize, rows: usize, q: usize, most: usize)
-    requires { (i < rows) × ColumnIn w i rows q m.old × (rows_with m.old w (i + 1) rows q ≤ most) }
-    ensures { Leaves w rows i q m.old m.new }
+fn leave(m: &mut [u64], sizes: Sizes, i: usize, q: usize, most: usize)
+    requires { (i < sizes.rows) × ColumnIn sizes.words i sizes.rows q m.old × (rows_with m.old sizes.words (i + 1) sizes.rows q ≤ most) }
+    ensures { Leaves sizes.words sizes.rows i q m.old m.new }
 {
-    let first = next_row(m, w, i, rows, q, most);
-    if first == rows {
-        numbering::add_row(m, w, i, i);
+    let first = next_row(m, sizes, i, q, most);
+    if first == sizes.rows {
+        numbering::add_row(m, sizes.words, i, i);
         return;
     }
-    numbering::merge_row(m, w, i, first);
+    numbering::merge_row(m, sizes.words, i, first);
     let mut left = most - 1;
     let mut j = first;
     loop {
-        j = next_row(m, w, j, rows, q, left);
-        if j == rows {
+        j = next_row(m, sizes, j, q, left);
+        if j == sizes.rows {
             return;
         }
-        numbering::add_row(m, w, i, j);
+        numbering::add_row(m, sizes.words, i, j);
         left -= 1;
     }
 }
 
 // Clears column `q`, which at most `most` of the rows from `top` on have: the first one is added to the others, and leaves, and row `top` takes its place.
 // Answers whether there was one.
-fn clear_column(m: &mut [u64], w: usize, top: usize, rows: usize, q: usize, most: usize) -> bool
-    requires { ColumnIn w top rows q m.old × (rows_with m.old w top rows q ≤ most) }
-    ensures { Clears w top rows q m.old m.new result }
+fn clear_column(m: &mut [u64], sizes: Sizes, top: usize, q: usize, most: usize) -> bool
+    requires { ColumnIn sizes.words top sizes.rows q m.old × (rows_with m.old sizes.words top sizes.rows q ≤ most) }
+    ensures { Clears sizes.words top sizes.rows q m.old m.new result }
 {
-    let i = find_row(m, w, top, rows, q);
-    if i == rows {
+    let i = find_row(m, sizes, top, q);
+    if i == sizes.rows {
         return false;
     }
-    leave(m, w, i, rows, q, most - 1);
-    if i == top {
-        return true;
+    leave(m, sizes, i, q, most - 1);
+    if i != top {
+        lists::copy_words(m, top * sizes.words, i * sizes.words, sizes.words);
     }
-    lists::copy_words(m, top * w, i * w, w);
     true
 }
 
 // Column `q`, which at most `most` rows have, is cleared; if there was a row to clear it, the column is noted. Returns how many rows have cleared one.
-fn take_column(work: &mut [u64], w: usize, top: usize, rows: usize, q: usize, most: usize) -> usize
-    requires { ColumnIn w top rows q work.old × (rows_with work.old w top rows q ≤ most) }
-    ensures { Takes w top rows q work.old work.new result }
+fn take_column(work: &mut [u64], sizes: Sizes, top: usize, q: usize, most: usize) -> usize
+    requires { ColumnIn sizes.words top sizes.rows q work.old × (rows_with work.old sizes.words top sizes.rows q ≤ most) }
+    ensures { Takes sizes.words top sizes.rows q work.old work.new result }
 {
-    if !clear_column(work, w, top, rows, q, most) {
+    if !clear_column(work, sizes, top, q, most) {
         return top;
     }
     work[ORDER + top] = q as u64;
@@ -116,24 +114,21 @@ fn take_column(work: &mut [u64], w: usize, top: usize, rows: usize, q: usize, mo
 }
 
 // The columns that are not lost are taken, the shortest first, until no row is left. Returns how many rows have cleared one.
-fn take_known(work: &mut [u64], n: usize, w: usize, rows: usize) -> usize
-    requires { ColumnsIn n w rows work.old × Sound n w rows 0 work.old }
-    ensures { Knowns n w rows work.old result work.new }
+fn take_known(work: &mut [u64], n: usize, sizes: Sizes) -> usize
+    requires { ColumnsIn n sizes.words sizes.rows work.old × Sound n sizes.words sizes.rows 0 work.old }
+    ensures { Knowns n sizes.words sizes.rows work.old result work.new }
 {
     let mut top: usize = 0;
-    let mut k: usize = 0;
-    while k < n {
-        let next = choosing::take_shortest(work, w);
-        if next.rows == 1024 {
+    for _ in 0..n {
+        let Some(next) = choosing::take_shortest(work, sizes.words) else {
             return top;
-        }
+        };
         if next.rows > 0 {
-            top = take_column(work, w, top, rows, next.column, next.rows);
-            if top == rows {
+            top = take_column(work, sizes, top, next.column, next.rows);
+            if top == sizes.rows {
                 return top;
             }
         }
-        k += 1;
     }
     top
 }
@@ -144,18 +139,17 @@ fn take_if_lost(
     marks: &mut [u8],
     lost: &[u8],
     n: usize,
-    w: usize,
-    rows: usize,
+    sizes: Sizes,
     top: usize,
     q: usize,
 ) -> usize
-    requires { (q < n) × (top ≤ rows) × ColumnsIn n w rows work.old × (n ≤ length lost.now) × (n ≤ length marks.old) }
-    ensures { LostTaken n w rows lost.now q top work.old marks.old result work.new marks.new }
+    requires { (q < n) × (top ≤ sizes.rows) × ColumnsIn n sizes.words sizes.rows work.old × (n ≤ length lost.now) × (n ≤ length marks.old) }
+    ensures { LostTaken n sizes.words sizes.rows lost.now q top work.old marks.old result work.new marks.new }
 {
     if lost[q] != 1 {
         return top;
     }
-    let next = take_column(work, w, top, rows, q, rows);
+    let next = take_column(work, sizes, top, q, sizes.rows);
     if next == top {
         return top;
     }
@@ -169,18 +163,15 @@ fn take_lost(
     marks: &mut [u8],
     lost: &[u8],
     n: usize,
-    w: usize,
-    rows: usize,
+    sizes: Sizes,
     first: usize,
 ) -> usize
-    requires { ColumnsIn n w rows work.old × (first ≤ rows) × (n ≤ length lost.now) × (n ≤ length marks.old) }
-    ensures { Losts n w rows lost.now first work.old marks.old n result work.new marks.new }
+    requires { ColumnsIn n sizes.words sizes.rows work.old × (first ≤ sizes.rows) × (n ≤ length lost.now) × (n ≤ length marks.old) }
+    ensures { Losts n sizes.words sizes.rows lost.now first work.old marks.old n result work.new marks.new }
 {
     let mut top = first;
-    let mut q: usize = 0;
-    while q < n {
-        top = take_if_lost(work, marks, lost, n, w, rows, top, q);
-        q += 1;
+    for q in 0..n {
+        top = take_if_lost(work, marks, lost, n, sizes, top, q);
     }
     top
 }
@@ -192,17 +183,24 @@ fn long_enough(n: usize, rows: usize, lost: &[u8], work: &[u64], marks: &[u8]) -
     (n <= 1024) & (rows <= 512) & (10240 <= work.len()) & (n <= lost.len()) & (n <= marks.len())
 }
 
-// Marks the fixed qubits of the first `rows` rows of `n` columns that `work` holds. Nothing is written where a size is out of range or a list too short.
-pub fn mark_fixed(n: u16, rows: usize, lost: &[u8], work: &mut [u64], marks: &mut [u8]) -> Search
+// Marks the fixed qubits of the first `rows` rows of `n` columns that `work` holds. None, and nothing written, where a size is out of range or a list too short.
+pub fn mark_fixed(
+    n: u16,
+    rows: usize,
+    lost: &[u8],
+    work: &mut [u64],
+    marks: &mut [u8],
+) -> Option<Cleared>
     ensures { Marked n rows lost.now work.old marks.old work.new marks.new result }
 {
     let columns = n as usize;
     if !long_enough(columns, rows, lost, work, marks) {
-        return Search::Short;
+        return None;
     }
     let w = packing::words_for(n);
     numbering::start(work, w, rows, columns, lost);
-    let known = take_known(work, columns, w, rows);
-    let all = take_lost(work, marks, lost, columns, w, rows, known);
-    Search::Made(Cleared { known, all })
+    let sizes = Sizes { words: w, rows };
+    let known = take_known(work, columns, sizes);
+    let all = take_lost(work, marks, lost, columns, sizes, known);
+    Some(Cleared { known, all })
 }

@@ -3,14 +3,10 @@ use mathlib.Core.Path.{◌≡◌, sym, ◌∙◌}
 use mathlib.Core.Bool.{Bool, false}
 use mathlib.Core.List.{List, ◌++◌}
 use Prim.Native.Nat.{ℕ, ◌+◌, ◌-◌, ◌≤◌}
-use native.Mathlib.Nat.{sub-zero}
 use native.Mathlib.Omega.{arith}
 use lib.ListN.{length, length-drop, take, drop}
 use lib.Seq.{take-add, take_at, drop_at, length-take-le}
-use Rattle.records.specs.declared.State.{State}
 use Rattle.claim.specs.Calls.{Passed}
-use Rattle.counts.specs.declared.Tally.{Tally}
-use Rattle.output.specs.declared.Output.{Output}
 use Rattle.input.specs.declared.Refilled.{Refilled}
 use Rattle.input.specs.Reading.{Keeps}
 use Rattle.cutting.specs.Cutting.{next_of}
@@ -43,7 +39,3 @@ module _ (a : Between) (l k : Passed) (old new : List ℕ) (f : Refilled) (full 
   pub block_taken : length new ≡ length old → Sent f.ended (record { state = a.state; lists = l; tally = a.tally; over = a.last; rest = take f.end old }) a.output (record { state = b.state; lists = k; tally = b.tally; over = b.over; rest = take h new }) b.output × (h ≤ length new) × (b.output.failed ≡ false → b.over ≡ false → next_of f.ended (take h new) ≡ 0)
   block_taken same =
       (rw (last, block_rest) d.sent, omega (arith, same, moved.0), λ g z. rw block_rest (d.left room g z))
-
--- The block is handed on by its first bytes.
-pub whole_part : (e full : Bool) (st : State) (tally : Tally) (l k : Passed) (mid : List ℕ) (n : ℕ) (o : Output) (b : Block) → Done e full (begun st tally l (take (n - 0) (drop 0 mid))) o k (take (n - 0) (drop 0 mid)) b → Done e full (begun st tally l (take n mid)) o k (take n mid) b
-whole_part e full st tally l k mid n o b d = rw (sub-zero n) at d

@@ -11,7 +11,9 @@ use borrow.Author.Tests.{leb-true, le-ltb, lt-leb}
 use lib.Dec.{eqb, leb}
 use lib.ListN.{length, get_or}
 use Rattle.binary.proofs.Bits.{and_out}
-use Rattle.records.specs.Records.{Pauli, X, Z, Kind, row_of, between, kind_of, whole_length}
+use Rattle.records.specs.declared.Pauli.{Pauli}
+use Rattle.records.specs.declared.Pauli.TheVariants.{X, Z}
+use Rattle.records.specs.Records.{Kind, row_of, between, kind_of, whole_length}
 use Rattle.cutting.specs.Cutting.{whole_of, next_of}
 use Rattle.cutting.specs.Room.{answer_most, is_full}
 use Rattle.cutting.proofs.Nexts.{next_whole, next_cut}

@@ -11,7 +11,7 @@
 --   BlocksTaken        blocks read and taken one after the other from a fresh start, and the bytes that all reads gave
 --   Ran                the whole run: its blocks; the bytes of all reads are the input, of which the records were taken in their order, and the
 --                      lines of all answers handed to the output; if it ended, and the records are not over and no write failed, nothing is left
-use Rattle.std.specs.Prelude.{◌≡◌, Bool, true, false, ◌||◌, ◌⊎◌, List, [], ◌++◌, ℕ, ◌-◌, ◌^◌, ◌≤◌, ◌<◌, pos, length, take, drop}
+use Rattle.std.specs.Prelude.{◌≡◌, Bool, true, false, ◌||◌, ◌⊎◌, List, [], ◌++◌, ℕ, ◌-◌, ◌^◌, ◌≤◌, ◌<◌, None, length, take, drop}
 use Rattle.records.specs.States.{fresh_state}
 use Rattle.claim.specs.Calls.{Passed}
 use Rattle.counts.specs.declared.Tally.{Tally}
@@ -33,13 +33,13 @@ pub record HasRoom (block out places : ℕ) : Type 0 where
   pub place : 0 < places
 
 abbrev pub no_tally : Tally
-no_tally = record { bytes = 0; records = 0; codes = 0; decodes = 0; refusals = 0; last = 0; more = 0 }
+no_tally = record { bytes = 0; records = 0; codes = 0; decodes = 0; refusals = 0; last = None; more = 0 }
 
 abbrev pub no_output : Output
 no_output = record { bytes = 0; records = 0; failed = false }
 
 abbrev pub start : Between
-start = record { state = fresh_state; tally = no_tally; held = 0; output = no_output; last = false; ended = false; over = false; error = pos 0 }
+start = record { state = fresh_state; tally = no_tally; held = 0; output = no_output; last = false; ended = false; over = false; error = None }
 
 abbrev pub standing : Between → Passed → List ℕ → Stand
 standing a l rest = record { state = a.state; lists = l; tally = a.tally; over = a.last; rest = rest }

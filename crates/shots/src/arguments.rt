@@ -3,21 +3,6 @@ ghost use Rattle.std.specs.Prelude.{◌≡◌, ◌≤◌, leb};
 
 use std::env::{Env, FillError};
 
-// Whether a text is the one that is meant.
-fn is_same(text: &[u8], meant: &[u8]) -> bool {
-    if text.len() != meant.len() {
-        return false;
-    }
-    let mut i: usize = 0;
-    while i < text.len() {
-        if text[i] != meant[i] {
-            return false;
-        }
-        i += 1;
-    }
-    true
-}
-
 // What `--help` tells.
 fn tell_help(rt: &impl Print) {
     let _ = rt.println("usage: shots < RECORDS");
@@ -54,12 +39,12 @@ pub fn count(rt: &impl Env) -> usize
     ensures { result ≤ 3 }
 {
     if is_given(rt, 2) {
-        return 3;
+        3
+    } else if is_given(rt, 1) {
+        2
+    } else {
+        1
     }
-    if is_given(rt, 1) {
-        return 2;
-    }
-    1
 }
 
 // Whether the program has arguments, of which the first is its own name; `--help` and `--version` are answered, and any other one too.
@@ -77,17 +62,9 @@ pub fn answered(rt: &(impl Env + Print + Eprint), count: usize) -> bool
 fn answer(rt: &(impl Env + Print + Eprint), count: usize) {
     let mut buffer = [0u8; 16];
     let n = rt.arg(1, &mut buffer).unwrap_or(0);
-    if count > 2 {
-        tell_unknown(rt);
-        return;
+    match &buffer[..n] {
+        b"--help" if count == 2 => tell_help(rt),
+        b"--version" if count == 2 => tell_version(rt),
+        _ => tell_unknown(rt),
     }
-    if is_same(&buffer[..n], b"--help") {
-        tell_help(rt);
-        return;
-    }
-    if is_same(&buffer[..n], b"--version") {
-        tell_version(rt);
-        return;
-    }
-    tell_unknown(rt);
 }

@@ -4,6 +4,8 @@
 mod arguments;
 mod run;
 
+use records::PassedLists;
+
 // The lists of code, shot and window at their least lengths, the blocks in which the program reads and writes, and places for the records that a
 // block of output answers.
 fn read_records(rt: HostRuntime) {
@@ -14,15 +16,18 @@ fn read_records(rt: HostRuntime) {
     let mut input = [0u8; 65536];
     let mut out = [0u8; 65536];
     let mut places = [0usize; 16384];
+    let mut passed = PassedLists {
+        flat: &mut flat,
+        ends: &mut ends,
+        shot: &mut shot,
+        window: &mut window,
+    };
     let mut errors = rt.stderr();
     let end = run::run(
         &mut rt.stdin(),
         &mut rt.stdout(),
         &mut errors,
-        &mut flat,
-        &mut ends,
-        &mut shot,
-        &mut window,
+        &mut passed,
         &mut input,
         &mut out,
         &mut places,

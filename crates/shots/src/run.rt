@@ -1,17 +1,18 @@
 // The loop: a block of input at a time, to the end.
 ghost use Rattle.std.specs.Prelude.{◌≡◌, false, ◌≤◌, length};
-ghost use Rattle.claim.specs.Calls.{passed};
+ghost use Rattle.records.specs.Lent.{SamePassed};
+ghost use Rattle.taking.specs.Taking.{passed_by};
 ghost use Rattle.cutting.specs.Room.{is_full};
 ghost use Rattle.shots.specs.Run.{HasRoom, BlockTaken, Ran};
 
 use counts::Tally;
 use input::Refilled;
 use output::Output;
-use records::State;
+use records::{PassedLists, State};
 use std::io::{Read, Write};
 
 // What passes from block to block: the state, the counts, how many bytes are held at the front of the next one, and what is written.
-// last: the records are over. ended: no more bytes come. over: nothing more is read. error: errno where the last read failed, and 0 else.
+// last: the records are over. ended: no more bytes come. over: nothing more is read. error: errno where the last read failed.
 #[derive(Clone, Copy)]
 pub struct Between {
     state: State,
@@ -21,7 +22,7 @@ pub struct Between {
     last: bool,
     ended: bool,
     over: bool,
-    error: i32,
+    error: Option<i32>,
 }
 
 // Takes the records of the bytes held and read, and holds what is left.
@@ -30,42 +31,32 @@ fn take_block<W: Write, E: Write>(
     errors: &mut E,
     here: Between,
     read: Refilled,
-    flat: &mut [u16],
-    ends: &mut [u16],
-    shot: &mut [u8],
-    window: &mut [u16],
+    passed: &mut PassedLists<'_>,
     block: &mut [u8],
     out: &mut [u8],
     places: &mut [usize],
 ) -> Between
     requires { (read.end ≤ length block.old) × (here.last ≡ false) × (is_full 0 (length out.old) 0 (length places.old) ≡ false) }
-    ensures { BlockTaken here read (passed flat.old ends.old shot.old window.old) block.old (passed flat.new ends.new shot.new window.new) block.new result }
+    ensures taken { BlockTaken here read (passed_by passed.old) block.old (passed_by passed.new) block.new result }
+    ensures same_passed { SamePassed passed.old passed.new }
 {
-    let st = here.state;
-    let tally = here.tally;
-    let output = here.output;
     let end = read.end;
     let b = blocks::one_block(
         to,
         errors,
-        st,
-        tally,
-        output,
+        here.state,
+        here.tally,
+        here.output,
         read.ended,
-        flat,
-        ends,
-        shot,
-        window,
-        &block[0..end],
+        passed,
+        &block[..end],
         out,
         places,
     );
-    let state = b.state;
-    let counted = b.tally;
     let after = b.output;
     Between {
-        state: state,
-        tally: counted,
+        state: b.state,
+        tally: b.tally,
         held: input::keep(block, b.taken, end),
         output: after,
         last: b.over,
@@ -81,25 +72,22 @@ pub fn run<R: Read, W: Write, E: Write>(
     from: &mut R,
     to: &mut W,
     errors: &mut E,
-    flat: &mut [u16],
-    ends: &mut [u16],
-    shot: &mut [u8],
-    window: &mut [u16],
+    passed: &mut PassedLists<'_>,
     block: &mut [u8],
     out: &mut [u8],
     places: &mut [usize],
 ) -> Between
     requires { HasRoom (length block.old) (length out.old) (length places.old) }
-    ensures { Ran (passed flat.old ends.old shot.old window.old) (passed flat.new ends.new shot.new window.new) block.new result }
+    ensures ran { Ran (passed_by passed.old) (passed_by passed.new) block.new result }
+    ensures same_passed { SamePassed passed.old passed.new }
 {
-    let st = states::fresh();
-    let none = Tally {
+    let tally = Tally {
         bytes: 0,
         records: 0,
         codes: 0,
         decodes: 0,
         refusals: 0,
-        last: 0,
+        last: None,
         more: 0,
     };
     let output = Output {
@@ -108,21 +96,19 @@ pub fn run<R: Read, W: Write, E: Write>(
         failed: false,
     };
     let mut here = Between {
-        state: st,
-        tally: none,
+        state: states::fresh(),
+        tally,
         held: 0,
-        output: output,
+        output,
         last: false,
         ended: false,
         over: false,
-        error: 0,
+        error: None,
     };
     let mut refills = u64::MAX;
     while refills > 0 && !here.over {
         let read = input::refill(from, block, here.held);
-        here = take_block(
-            to, errors, here, read, flat, ends, shot, window, block, out, places,
-        );
+        here = take_block(to, errors, here, read, passed, block, out, places);
         refills -= 1;
     }
     here
@@ -130,12 +116,9 @@ pub fn run<R: Read, W: Write, E: Write>(
 
 // Tells how the run ended.
 pub fn tell<E: Write>(errors: &mut E, end: Between) {
-    let state = end.state;
-    let tally = end.tally;
-    let output = end.output;
-    telling::tell_end(errors, tally, state);
+    telling::tell_end(errors, end.tally, end.state);
     telling::tell_read(errors, end.error);
-    if output.failed {
-        telling::tell_write(errors, output.bytes, output.records);
+    if end.output.failed {
+        telling::tell_write(errors, end.output.bytes, end.output.records);
     }
 }

@@ -13,7 +13,8 @@ use Rattle.binary.specs.Words.{listed}
 use Rattle.binary.proofs.Bits.{never, and_out}
 use Rattle.binary.proofs.Elimination.{fixed_lost}
 use Rattle.binary.proofs.WordBits.{order}
-use Rattle.search.specs.declared.Search.{Search}
+use Rattle.std.specs.Prelude.{Option}
+use Rattle.search.specs.declared.Cleared.{Cleared}
 use Rattle.search.specs.Route.{known, route}
 use Rattle.search.specs.Marked.{Marked, enough, columns_of}
 use Rattle.search.proofs.Stands.{columns_long, columns_same}
@@ -64,7 +65,7 @@ routed_as n rs lost work work' past v =
     }
 
 -- The fixed qubits marked where every lost qubit is open.
-module _ (n : ℕ) (flat ends lost : List ℕ) (other others : ℕ) (marks marks' work work₁ work₂ : List ℕ) (r : Search)
+module _ (n : ℕ) (flat ends lost : List ℕ) (other others : ℕ) (marks marks' work work₁ work₂ : List ℕ) (r : Option Cleared)
     (packed : RowsPut n flat ends other others work work₁) (fixes : Marked n others lost work₁ marks work₂ marks' r) where
   abbrev rs : List Row
   rs = rows_from flat ends other others

@@ -24,11 +24,13 @@ use Rattle.scans.specs.Rows.{RowLists, rows_in, read?, check_at, checks_from, ro
 use Rattle.scans.proofs.Scanning.{open_below_lem}
 use Rattle.kept.specs.Kept.{Kept, RowsOn}
 use Rattle.kept.proofs.Same.{kept_same, rows_same}
+use Rattle.scans.specs.Half as sized
 use Rattle.filling.specs.Filling as filling
 use Rattle.filling.specs.Filling.{Fills}
 use Rattle.peeling.specs.Peeling as peeling
 use Rattle.peeling.specs.Peeling.{Peels, Ready}
-use Rattle.search.specs.declared.Search.{Search}
+use Rattle.std.specs.Prelude.{Option}
+use Rattle.search.specs.declared.Cleared.{Cleared}
 use Rattle.search.specs.Marked.{enough, Marked}
 use Rattle.lists.specs.Filled.{Filled}
 use Rattle.packing.specs.PackedRows.{RowsPut}
@@ -66,7 +68,7 @@ keeps_as n c work marks marks' e k = record { kept = subst (λ (o : Qubits). Kep
 
 filled_keeps : (n : ℕ) (c : RowLists) (marks work work' : List ℕ) → n ≤ 1024 → c.count ≤ 512 → c.first + c.count ≤ 1024 → c.first + c.count ≤ length c.lit → 9216 ≤ length work
     → Fills n c marks work work' → GoodRows n c → Keeps n c work' marks
-unfolding filling.enough?
+unfolding filling.enough? sized.sized?
 filled_keeps n c marks work work' size few last lit words f good =
     let t : filling.enough? n c (length work) ≡ true
     = rw (le-leb n 1024 size, le-leb c.count 512 few, le-leb (c.first + c.count) 1024 last, le-leb 9216 (length work) words, le-leb (c.first + c.count) (length c.lit) lit) in
@@ -165,7 +167,7 @@ module _ (n : ℕ) (c : RowLists) (lost work work₁ work₂ work₃ marks marks
 ----------------------------------------------------------------------
 -- The search
 
-module _ (n : ℕ) (flat ends lost : List ℕ) (other others : ℕ) (work work₁ work₂ marks marks' : List ℕ) (r : Search) (size : n ≤ 1024) (many : others ≤ 512)
+module _ (n : ℕ) (flat ends lost : List ℕ) (other others : ℕ) (work work₁ work₂ marks marks' : List ℕ) (r : Option Cleared) (size : n ≤ 1024) (many : others ≤ 512)
     (words : 10240 ≤ length work) (long : n ≤ length lost) (room : n ≤ length marks)
     (packed : RowsPut n flat ends other others work work₁) (fixes : Marked n others lost work₁ marks work₂ marks' r) where
   pub searched : Searched n flat ends lost other others work work₂ marks marks'

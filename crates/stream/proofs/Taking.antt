@@ -3,16 +3,15 @@ use mathlib.Core.Path.{◌≡◌, refl, sym, ap, ap₂, ◌∙◌, subst}
 use mathlib.Core.Bool.{Bool, true, false}
 use mathlib.Core.Option.{some}
 use mathlib.Core.List.{List}
-use Prim.Native.Nat.{ℕ, ◌-◌, ◌≤◌}
-use native.Mathlib.Nat.{sub-zero}
-use lib.ListN.{length, get_or, take, drop}
-use Rattle.binary.specs.Meaning.{Row}
+use Prim.Native.Nat.{ℕ, ◌≤◌}
+use lib.ListN.{length, get_or, take}
 use Rattle.binary.proofs.Bits.{never}
 use Rattle.records.specs.declared.State.{State}
 use Rattle.records.specs.declared.Reply.{Reply}
 use Rattle.records.specs.declared.Refusal.{Refusal}
 use Rattle.records.specs.declared.Refusal.TheVariants.{Length}
-use Rattle.records.specs.Records.{Pauli, pauli, Set, lost, lit, unread, Record, unknown, wrong, size, row, add, report, encodes, number, numbers, record_of}
+use Rattle.records.specs.declared.Pauli.{Pauli}
+use Rattle.records.specs.Records.{Set, lost, lit, unread, Record, unknown, wrong, size, row, add, report, encodes, number, numbers, record_of}
 use Rattle.records.specs.History.{History}
 use Rattle.records.specs.Table.{refusal, is_report}
 use Rattle.records.specs.Lists.{Lists, Six, Lent, held, lent_of, short_lists, short_six}
@@ -32,10 +31,9 @@ use Rattle.reading.proofs.Numbers.{numbers_length}
 
 -- The part of an array that holds the numbers of a record's bytes is a row.
 pub row_read : (p : Pauli) (st : State) (flat ends body bytes : List ℕ) (w : ℕ) (short : Bool) (r : Reply) (flat' ends' : List ℕ)
-    → w ≤ 16 → (w ≤ 16 → take w body ≡ numbers bytes 1 w) → RowTaken p st flat ends (take (w - 0) (drop 0 body)) short r flat' ends'
+    → w ≤ 16 → (w ≤ 16 → take w body ≡ numbers bytes 1 w) → RowTaken p st flat ends (take w body) short r flat' ends'
     → RowTaken p st flat ends (numbers bytes 1 w) short r flat' ends'
-row_read p st flat ends body bytes w short r flat' ends' h e t =
-    subst (λ (q : Row). RowTaken p st flat ends q short r flat' ends') (ap (λ (k : ℕ). take k body) (sub-zero w) ∙ e h) t
+row_read p st flat ends body bytes w short r flat' ends' h e t = rw (e h) at t
 
 ----------------------------------------------------------------------
 -- What the bytes are
@@ -45,7 +43,7 @@ module _ (bytes : List ℕ) (s : Shape) (v : RecordAs bytes s) where
   unfolding RecordAs
   at_size e = subst (RecordAs bytes) e v
 
-  pub at_row : (x : Bool) (w : ℕ) → s ≡ Shape.Row x w → (record_of bytes ≡ row (pauli x) (numbers bytes 1 w)) × (w ≤ 16)
+  pub at_row : (x : Pauli) (w : ℕ) → s ≡ Shape.Row x w → (record_of bytes ≡ row x (numbers bytes 1 w)) × (w ≤ 16)
   unfolding RecordAs
   at_row x w e = subst (RecordAs bytes) e v
 
@@ -53,11 +51,11 @@ module _ (bytes : List ℕ) (s : Shape) (v : RecordAs bytes s) where
   unfolding RecordAs
   at_lose e = subst (RecordAs bytes) e v
 
-  pub at_light : (x : Bool) → s ≡ Light x → record_of bytes ≡ add (lit (pauli x)) (number bytes 1)
+  pub at_light : (x : Pauli) → s ≡ Light x → record_of bytes ≡ add (lit x) (number bytes 1)
   unfolding RecordAs
   at_light x e = subst (RecordAs bytes) e v
 
-  pub at_unread : (x : Bool) → s ≡ Unread x → record_of bytes ≡ add (unread (pauli x)) (number bytes 1)
+  pub at_unread : (x : Pauli) → s ≡ Unread x → record_of bytes ≡ add (unread x) (number bytes 1)
   unfolding RecordAs
   at_unread x e = subst (RecordAs bytes) e v
 
@@ -143,7 +141,7 @@ module _ (bytes : List ℕ) (s : Shape) (v : RecordAs bytes s) where
           does = λ window work six t. rw w (d.does l six);
         }
 
-    pub take_row : (x : Bool) (w : ℕ) → s ≡ Shape.Row x w → (flat' ends' : List ℕ) → RowTaken (pauli x) st flat ends (numbers bytes 1 w) short r flat' ends'
+    pub take_row : (x : Pauli) (w : ℕ) → s ≡ Shape.Row x w → (flat' ends' : List ℕ) → RowTaken x st flat ends (numbers bytes 1 w) short r flat' ends'
         → Takes short bytes st l (held flat' ends' shot) r
     take_row x w e flat' ends' d =
         let z = at_row x w e in

@@ -1,50 +1,47 @@
 // The stream of records: one call for each record, from a fresh start.
 #![tactic(auto)]
 
+mod lent;
 mod take;
 
-ghost use Rattle.records.specs.Lists.{held, six_of, lent_of};
+ghost use Rattle.machine.specs.Lent.{SameHalf};
+ghost use Rattle.records.specs.Lent.{lent_by, SamePassed};
 ghost use Rattle.records.specs.Promise.{Promise};
 
-use records::{Reply, State};
+use machine::LentHalf;
+use records::{PassedLists, Reply, State};
 
-// One record: the state, the lists of code and shot and the window go in as the last call left them, with a work list and the six lists of a decode.
+// One record: the state and the lists that pass from call to call go in as the last call left them, with a work list and the lists of both halves of a decode.
 pub fn step(
     st: State,
-    flat: &mut [u16],
-    ends: &mut [u16],
-    shot: &mut [u8],
-    window: &mut [u16],
+    passed: &mut PassedLists<'_>,
     work: &mut [u64],
-    x_marks: &mut [u8],
-    x_forms: &mut [u64],
-    x_correction: &mut [u8],
-    z_marks: &mut [u8],
-    z_forms: &mut [u64],
-    z_correction: &mut [u8],
+    x: &mut LentHalf<'_>,
+    z: &mut LentHalf<'_>,
     bytes: &[u8],
 ) -> Reply
-    ensures { Promise st bytes.now (lent_of (held flat.old ends.old shot.old) window.old work.old (six_of x_marks.old x_forms.old x_correction.old z_marks.old z_forms.old z_correction.old)) (lent_of (held flat.new ends.new shot.new) window.new work.new (six_of x_marks.new x_forms.new x_correction.new z_marks.new z_forms.new z_correction.new)) result }
+    ensures promised { Promise st bytes.now (lent_by passed.old work.old x.old z.old) (lent_by passed.new work.new x.new z.new) result }
+    ensures same_passed { SamePassed passed.old passed.new }
+    ensures same_x { SameHalf x.old x.new }
+    ensures same_z { SameHalf z.old z.new }
 {
     let shape = reading::shape_of(bytes);
-    if reading::is_decode(shape) {
-        return decoding::decode(
+    if shape.is_decode() {
+        let budget = reading::byte_at(bytes, 1);
+        let limit = reading::number(bytes, 2);
+        return lent::decode_lent(
             st,
-            reading::byte_at(bytes, 1),
-            reading::number(bytes, 2),
-            flat,
-            ends,
-            shot,
-            window,
+            budget,
+            limit,
+            passed.flat,
+            passed.ends,
+            passed.shot,
+            passed.window,
             work,
-            x_marks,
-            x_forms,
-            x_correction,
-            z_marks,
-            z_forms,
-            z_correction,
+            x,
+            z,
         );
     }
-    let short = rules::short_lists(flat, ends, shot, window, work);
-    take::take(st, shape, flat, ends, shot, bytes, short)
+    let short = lent::short_passed(passed, work);
+    take::take(st, shape, passed, bytes, short)
 }

@@ -7,18 +7,19 @@ use native.Mathlib.Omega.{arith}
 use borrow.Author.Tests.{le-leb}
 use lib.ListN.{length, length-drop, drop}
 use lib.Seq.{sets, length-take-le, drop-drop}
+use Rattle.std.specs.Prelude.{Option, None, Some, is_some, IfSome, unwrap_or}
+use Rattle.binary.proofs.Bits.{never}
 use Rattle.records.specs.declared.State.{State}
 use Rattle.records.specs.declared.Reply.{Reply}
 use Rattle.claim.specs.Calls.{Passed, passed_of, Step}
 use Rattle.counts.specs.declared.Tally.{Tally}
-use Rattle.lines.specs.declared.Put.{Put}
 use Rattle.lines.specs.Lines.{room_for, Lined}
 use Rattle.cutting.specs.Room.{answer_most, is_full}
 use Rattle.cutting.proofs.Full.{not_full}
 use Rattle.taking.specs.declared.Progress.{Progress}
 use Rattle.cutting.specs.Cutting.{next_of}
 use Rattle.taking.specs.Taking.{next}
-use Rattle.taking.specs.Progress.{begin_of, stand_of, record_at, Ready, Going, Answered}
+use Rattle.taking.specs.Progress.{begin_of, stand_of, record_at, Ready, Going, PutAll, Answered}
 
 -- The next record's bytes are as many as it says.
 pub record_long : (p : Progress) (block : List ℕ) → p.taken + p.next ≤ length block → length (record_at p block) ≡ p.next
@@ -30,18 +31,18 @@ room_most : (n : ℕ) (x z : List ℕ) → length x ≤ 1024 → length z ≤ 10
 unfolding room_for
 room_most n x z a b = omega arith
 
-module _ (n at : ℕ) (text x z old new : List ℕ) (r : Put) (room : at + answer_most ≤ length old) (lx : length x ≤ 1024) (lz : length z ≤ 1024) (l : Lined text (room_for n x z) at old new r) where
-  told : r.room ≡ true
-  told = l.told ∙ le-leb (at + room_for n x z) (length old) (omega (arith, room_most n x z lx lz))
+-- So the lines of an answer are put.
+pub put_all : (n at : ℕ) (text x z old new : List ℕ) (r : Option ℕ) (end : ℕ) → at + answer_most ≤ length old → length x ≤ 1024 → length z ≤ 1024
+    → Lined text (room_for n x z) at old new r → end ≡ unwrap_or r at → PutAll text at old new end
+put_all n at text x z old new r end room lx lz l e = by r e told l.put
+  where
+    told : is_some r ≡ true
+    told = l.told ∙ le-leb (at + room_for n x z) (length old) (omega (arith, room_most n x z lx lz))
 
-  pub put_text : new ≡ sets old at text
-  put_text = (l.put told).0
-
-  pub put_end : r.end ≡ at + length text
-  put_end = (l.put told).1
-
-  pub put_fits : r.end ≤ length old
-  put_fits = l.fits told
+    by : (o : Option ℕ) → end ≡ unwrap_or o at → is_some o ≡ true → IfSome o (λ e. (new ≡ sets old at text) × (e ≡ at + length text) × (e ≤ length old))
+        → PutAll text at old new end
+    by None e t h = never t refl
+    by (Some m) e t h = record { put = h.0; ends = e ∙ h.1; fits = rw e h.2 }
 
 -- Another record is taken only where nothing stops that.
 pub going : (full over : Bool) (n m : ℕ) → n ≡ cond (full || over) 0 m → 0 < n → (full ≡ false) × (over ≡ false) × (n ≡ m)

@@ -4,6 +4,7 @@
 --   Ready       a record is to be taken, the one that the bytes left begin with, and there is room for its answer and its place
 --   Going       what is taken, put and noted lies in the lists; a record is to be taken only where it is ready
 --   record_at    the bytes of the next record; text_of: the lines of its answer
+--   PutAll      a text is put behind what is there
 --   Answered    the next record is answered: its lines are put, and nothing else of the output changed
 --   Filled      records were taken, their lines put and their places noted; one at least, if one was to be taken
 use Rattle.std.specs.Prelude.{◌≡◌, Bool, false, cond, List, ℕ, ◌+◌, ◌≤◌, ◌<◌, length, get_or, take, drop}
@@ -51,6 +52,12 @@ record_at p block = take p.next (drop p.taken block)
 
 abbrev pub text_of : Progress → Reply → List ℕ → List ℕ → List ℕ → List ℕ
 text_of p reply block x z = lines_of (get_or (record_at p block) 0 0) reply.answer x z reply.state.sizes.n
+
+-- A text is put behind the first `at` bytes, and ends at `end`.
+pub record PutAll (text : List ℕ) (at : ℕ) (old new : List ℕ) (end : ℕ) : Type 0 where
+  pub put : new ≡ sets old at text
+  pub ends : end ≡ at + length text
+  pub fits : end ≤ length old
 
 pub record Answered (ended : Bool) (p : Progress) (reply : Reply) (block x z old new : List ℕ) (most : ℕ) (r : Progress) : Type 0 where
   pub state : r.state ≡ reply.state

@@ -1,4 +1,5 @@
 -- Records taken from bytes, one call of `step` for each.
+--   passed_by    what the lists hold that pass from call to call
 --   Stand       where the program stands: the state, the lists of code and shot, the counts, whether the records are over, and the bytes left
 --   One         the call takes the record that the bytes left begin with, with state and lists as they stand, and the records are not over
 --   next        where the program stands after the call
@@ -8,11 +9,15 @@
 --   Took        calls were made, and their lines put to the output, with the place where the lines of each end
 use Rattle.std.specs.Prelude.{◌≡◌, Bool, false, List, [], ◌∷◌, ◌++◌, ℕ, ◌+◌, ◌<◌, length, get_or, take, drop}
 use Rattle.records.specs.declared.State.{State}
-use Rattle.claim.specs.Calls.{Passed, passed_of, Step, step, Keeps}
+use Rattle.records.specs.declared.PassedLists.{PassedLists}
+use Rattle.claim.specs.Calls.{Passed, passed, passed_of, Step, step, Keeps}
 use Rattle.counts.specs.declared.Tally.{Tally}
 use Rattle.counts.specs.Counts.{tallied}
 use Rattle.lines.specs.Lines.{lines_of}
 use Rattle.cutting.specs.Cutting.{next_of, is_last}
+
+abbrev pub passed_by : PassedLists → Passed
+passed_by l = passed l.flat.now l.ends.now l.shot.now l.window.now
 
 pub record Stand : Type 0 where
   pub state : State

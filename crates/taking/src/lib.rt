@@ -4,12 +4,14 @@
 mod answering;
 
 ghost use Rattle.std.specs.Prelude.{◌≡◌, length};
-ghost use Rattle.claim.specs.Calls.{passed};
+ghost use Rattle.records.specs.Lent.{SamePassed};
+ghost use Rattle.taking.specs.Taking.{passed_by};
 ghost use Rattle.taking.specs.Progress.{begin_of, Going, Filled};
 
 use counts::Tally;
 use cutting::{is_full, next_length};
-use records::State;
+use machine::LentHalf;
+use records::{PassedLists, State};
 use std::io::Write;
 
 // How far a block is done. taken: the bytes of input taken. next: those of the next record, 0 where none is to be taken before what is put
@@ -27,21 +29,21 @@ pub struct Progress {
 
 // Nothing of the output is put yet. room, most: how many bytes and how many places it has.
 fn begin(
-    st: State,
+    state: State,
     tally: Tally,
-    from: usize,
+    taken: usize,
     ended: bool,
     block: &[u8],
     room: usize,
     most: usize,
 ) -> Progress
-    ensures { result ≡ begin_of st tally from ended block.now room most }
+    ensures { result ≡ begin_of state tally taken ended block.now room most }
 {
     Progress {
-        state: st,
-        tally: tally,
-        taken: from,
-        next: next_length(is_full(0, room, 0, most), block, from, ended),
+        state,
+        tally,
+        taken,
+        next: next_length(is_full(0, room, 0, most), block, taken, ended),
         put: 0,
         noted: 0,
         over: false,
@@ -53,16 +55,14 @@ fn all_records<E: Write>(
     errors: &mut E,
     mut p: Progress,
     ended: bool,
-    flat: &mut [u16],
-    ends: &mut [u16],
-    shot: &mut [u8],
-    window: &mut [u16],
+    passed: &mut PassedLists<'_>,
     block: &[u8],
     out: &mut [u8],
     places: &mut [usize],
 ) -> Progress
     requires { (p.put ≡ 0) × (p.noted ≡ 0) × Going ended p block.now out.old places.old }
-    ensures { Filled ended p (passed flat.old ends.old shot.old window.old) (passed flat.new ends.new shot.new window.new) block.now out.new places.new result }
+    ensures filled { Filled ended p (passed_by passed.old) (passed_by passed.new) block.now out.new places.new result }
+    ensures same_passed { SamePassed passed.old passed.new }
 {
     let mut work = [0u64; 10240];
     let mut x_marks = [0u8; 1024];
@@ -71,37 +71,23 @@ fn all_records<E: Write>(
     let mut z_marks = [0u8; 1024];
     let mut z_forms = [0u64; 4096];
     let mut z_correction = [0u8; 1024];
+    let work: &mut [u64] = &mut work;
+    let mut x = LentHalf {
+        marks: &mut x_marks,
+        forms: &mut x_forms,
+        correction: &mut x_correction,
+    };
+    let mut z = LentHalf {
+        marks: &mut z_marks,
+        forms: &mut z_forms,
+        correction: &mut z_correction,
+    };
     let most = places.len();
     while p.next > 0 {
         let at = p.noted;
-        let st = p.state;
         let bytes = answering::next_record(p, block);
-        let reply = stream::step(
-            st,
-            flat,
-            ends,
-            shot,
-            window,
-            &mut work,
-            &mut x_marks,
-            &mut x_forms,
-            &mut x_correction,
-            &mut z_marks,
-            &mut z_forms,
-            &mut z_correction,
-            bytes,
-        );
-        p = answering::answered(
-            errors,
-            p,
-            ended,
-            reply,
-            block,
-            &x_correction,
-            &z_correction,
-            out,
-            most,
-        );
+        let reply = stream::step(p.state, passed, work, &mut x, &mut z, bytes);
+        p = answering::answered(errors, p, ended, reply, block, &x, &z, out, most);
         places[at] = p.put;
     }
     p
@@ -115,18 +101,14 @@ pub fn take_records<E: Write>(
     tally: Tally,
     from: usize,
     ended: bool,
-    flat: &mut [u16],
-    ends: &mut [u16],
-    shot: &mut [u8],
-    window: &mut [u16],
+    passed: &mut PassedLists<'_>,
     block: &[u8],
     out: &mut [u8],
     places: &mut [usize],
 ) -> Progress
-    ensures { Filled ended (begin_of st tally from ended block.now (length out.old) (length places.old)) (passed flat.old ends.old shot.old window.old) (passed flat.new ends.new shot.new window.new) block.now out.new places.new result }
+    ensures filled { Filled ended (begin_of st tally from ended block.now (length out.old) (length places.old)) (passed_by passed.old) (passed_by passed.new) block.now out.new places.new result }
+    ensures same_passed { SamePassed passed.old passed.new }
 {
     let p = begin(st, tally, from, ended, block, out.len(), places.len());
-    all_records(
-        errors, p, ended, flat, ends, shot, window, block, out, places,
-    )
+    all_records(errors, p, ended, passed, block, out, places)
 }

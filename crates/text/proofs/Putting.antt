@@ -1,5 +1,5 @@
 -- Texts put one behind the other. Assumes nothing.
-use mathlib.Core.Path.{◌≡◌, refl, sym}
+use mathlib.Core.Path.{◌≡◌, refl, ◌∙◌}
 use mathlib.Core.Logic.{⊎_elim}
 use mathlib.Core.List.{List, [], ◌∷◌, ◌++◌}
 use Prim.Native.Nat.{ℕ, suc, ◌+◌, ◌-◌, ◌≤◌, ◌<◌, ◌^◌}
@@ -7,9 +7,11 @@ use native.Mathlib.Nat.{eq-zero-or-pos, add-zero}
 use native.Mathlib.Omega.{arith}
 use native.Mathlib.Numerals.{add-one}
 use lib.ListN.{length, length-append, get_or, set, take}
-use lib.Seq.{sets, length-sets, set_out, take-suc, take_all}
+use lib.Seq.{sets, length-sets, set_out, take-suc}
 use Rattle.io.specs.Digits.{last_digits, IsDigitCount}
+use Rattle.text.specs.declared.Line.{Line}
 use Rattle.text.specs.Text.{number, Puts}
+use Rattle.text.specs.Line.{Adds}
 use Rattle.text.proofs.Digits.{decimal_fewest}
 
 -- Behind the end of a list nothing is put.
@@ -27,12 +29,6 @@ sets_append l i (c ∷ a) b =
 pub puts_none : (at : ℕ) (l : List ℕ) → Puts [] at l l at
 puts_none at l = record { bytes = refl; ends = omega arith }
 
-pub put_one : (b at : ℕ) (l : List ℕ) → at < length l → Puts (b ∷ []) at l (set l at b) (at + 1)
-put_one b at l h = record { bytes = refl; ends = omega arith }
-
-pub put_out : (b at : ℕ) (l : List ℕ) → length l ≤ at → Puts (b ∷ []) at l l at
-put_out b at l h = record { bytes = sym (sets_out l at (b ∷ []) h); ends = omega arith }
-
 -- One text, then another.
 pub puts_then : {a b : List ℕ} {at e r : ℕ} {old mid new : List ℕ} → Puts a at old mid e → Puts b e mid new r → Puts (a ++ b) at old new r
 puts_then {a} {b} {at} {e} {r} {old} {mid} {new} p q =
@@ -49,15 +45,18 @@ puts_then {a} {b} {at} {e} {r} {old} {mid} {new} p q =
     full : 0 < length a - (length old - at) → new ≡ sets old at (a ++ b)
     full h = rw (q.bytes, sets_out mid e b (omega (arith, same, p.ends)), sets_append old at a b, sets_out (sets old at a) (at + length a) b (rw (length-sets old at a) (omega arith))) p.bytes
 
--- A byte more of a text.
-pub puts_more : (text : List ℕ) (i : ℕ) {at e r : ℕ} {old mid new : List ℕ} → Puts (take i text) at old mid e → i < length text → Puts (get_or text i 0 ∷ []) e mid new r → Puts (take (i + 1) text) at old new r
-puts_more text i p h q = rw (add-one i, take-suc text i 0 h) (puts_then p q)
+-- The same of a line.
+pub adds_none : (l : Line) → Adds [] l l
+adds_none l = record { same = refl; puts = puts_none l.end l.bytes.now }
 
--- All of it.
-pub puts_all : (text : List ℕ) (i : ℕ) {at r : ℕ} {old new : List ℕ} → Puts (take i text) at old new r → length text ≤ i → Puts text at old new r
-puts_all text i p h = rw (take_all i text h) at p
+pub adds_then : {a b : List ℕ} {old mid new : Line} → Adds a old mid → Adds b mid new → Adds (a ++ b) old new
+adds_then p q = record { same = q.same ∙ p.same; puts = puts_then p.puts q.puts }
+
+-- A byte more of a text.
+pub adds_more : (text : List ℕ) (i : ℕ) {old mid new : Line} → Adds (take i text) old mid → i < length text → Adds (get_or text i 0 ∷ []) mid new → Adds (take (i + 1) text) old new
+adds_more text i p h q = rw (add-one i, take-suc text i 0 h) (adds_then p q)
 
 -- A blank, and the fewest digits that hold a number: the number.
-pub puts_number : (n k : ℕ) (d : List ℕ) {at e r : ℕ} {old mid new : List ℕ} → n < 2 ^ 64 → IsDigitCount 10 1 n k → take k d ≡ last_digits 10 k n → Puts (32 ∷ []) at old mid e → Puts (take k d) e mid new r → Puts (number n) at old new r
-puts_number n k d w f t p q =
-    puts_then p (rw (t, decimal_fewest n k w f) at q)
+pub adds_number : (n k : ℕ) (d : List ℕ) {old mid new : Line} → n < 2 ^ 64 → IsDigitCount 10 1 n k → take k d ≡ last_digits 10 k n → Adds (32 ∷ []) old mid → Adds (take k d) mid new → Adds (number n) old new
+adds_number n k d w f t p q =
+    adds_then p (rw (t, decimal_fewest n k w f) at q)

@@ -2,38 +2,43 @@
 #![tactic(auto)]
 
 ghost use Rattle.std.specs.Prelude.{[], ◌∷◌};
-ghost use Rattle.text.specs.Text.{number, Puts};
+ghost use Rattle.text.specs.Text.{number};
+ghost use Rattle.text.specs.Line.{Adds};
 
-// Puts a byte at `at`, and answers where the next one goes.
-pub fn put_byte(out: &mut [u8], at: usize, byte: u8) -> usize
-    ensures { Puts (byte ∷ []) at out.old out.new result }
-{
-    if out.len() <= at {
-        return at;
-    }
-    out[at] = byte;
-    at + 1
+// A list of bytes, of which the first `end` are put.
+#[derive(Drop)]
+pub struct Line<'a> {
+    pub bytes: &'a mut [u8],
+    pub end: usize,
 }
 
-// Puts a text, byte by byte.
-pub fn put_text(out: &mut [u8], at: usize, text: &[u8]) -> usize
-    ensures { Puts text.now at out.old out.new result }
-{
-    let mut end = at;
-    let mut i: usize = 0;
-    while i < text.len() {
-        end = put_byte(out, end, text[i]);
-        i += 1;
+impl Line<'_> {
+    // Puts a byte.
+    pub fn put_byte(&mut self, byte: u8)
+        ensures { Adds (byte ∷ []) self.old self.new }
+    {
+        if self.end < self.bytes.len() {
+            self.bytes[self.end] = byte;
+            self.end += 1;
+        }
     }
-    end
-}
 
-// Puts a blank and the number in decimal.
-pub fn put_number(out: &mut [u8], at: usize, n: u64) -> usize
-    ensures { Puts (number n) at out.old out.new result }
-{
-    let mut digits = [0u8; 20];
-    let k = io::decimal(n, &mut digits);
-    let end = put_byte(out, at, b' ');
-    put_text(out, end, &digits[..k])
+    // Puts a text, byte by byte.
+    pub fn put_text(&mut self, text: &[u8])
+        ensures { Adds text.now self.old self.new }
+    {
+        for &byte in text {
+            self.put_byte(byte);
+        }
+    }
+
+    // Puts a blank and the number in decimal.
+    pub fn put_number(&mut self, n: u64)
+        ensures { Adds (number n) self.old self.new }
+    {
+        let mut digits = [0u8; 20];
+        let k = io::decimal(n, &mut digits);
+        self.put_byte(b' ');
+        self.put_text(&digits[..k]);
+    }
 }

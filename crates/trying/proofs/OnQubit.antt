@@ -1,21 +1,22 @@
 -- The list of the rows on a qubit: what is known of the half's rows by it. Assumes nothing.
 use mathlib.Core.Path.{◌≡◌, refl, sym, ap, ◌∙◌, subst}
 use mathlib.Core.Bool.{Bool, true, false, cond}
+use mathlib.Core.Logic.{◌⊎◌, ⊎_elim}
 use mathlib.Core.List.{List, []}
 use Prim.Native.Nat.{ℕ, ◌+◌, ◌≤◌, ◌<◌}
 use native.Mathlib.Omega.{arith}
-use lib.Dec.{leb}
-use lib.ListN.{length}
-use borrow.Author.Tests.{le-leb, lt-leb, leb-true}
 use Rattle.binary.specs.Meaning.{Qubits, Row, has}
-use Rattle.binary.proofs.Bits.{and_out}
 use Rattle.code.specs.Tests.{Ascending, Distinct}
 use Rattle.code.proofs.Order.{ascending_distinct}
-use Rattle.incidence.specs.Incidence.{slot, number_on, rows_on}
+use Rattle.incidence.specs.Incidence.{number_on, rows_on}
 use Rattle.scans.specs.Rows.{RowLists, check_in, read_in?, GoodRows}
 use Rattle.kept.specs.Kept.{row_in}
 use Rattle.kept.proofs.Same.{row_of_lem}
-use Rattle.trying.specs.Entries.{entry_of, listed?}
+use Rattle.trying.specs.Entries.{entry_of}
+
+-- A row that is not among the half's.
+pub not_among : (first count r : ℕ) → (r < first) ⊎ (first + count ≤ r) → (i : ℕ) → r ≡ first + i → i < count → ⊥
+not_among first count r past i is within = ⊎_elim (λ (l : r < first). omega arith) (λ (m : first + count ≤ r). omega arith) past
 
 pub record OnQubit (n q : ℕ) (on : List ℕ) (c : RowLists) : Type 0 where
   pub good : GoodRows n c
@@ -47,19 +48,3 @@ module _ (n q : ℕ) (on : List ℕ) (c : RowLists) (g : OnQubit n q on c) where
 
     pub own_distinct : Distinct (check_in c j).row
     own_distinct = ascending_distinct n (check_in c j).row own_ascending
-
-----------------------------------------------------------------------
--- The list found
-
-module _ (ends : List ℕ) (q : ℕ) where
-  pub unlisted : length ends < slot q + 15 → false ≡ listed? ends q
-  unfolding listed?
-  unlisted h = rw (lt-leb (slot q + 15) (length ends) h)
-
-  pub listed_told : slot q + 15 ≤ length ends → leb (number_on ends q) 14 ≡ listed? ends q
-  unfolding listed?
-  listed_told h = rw (le-leb (slot q + 15) (length ends) h)
-
-  pub listed_out : listed? ends q ≡ true → (slot q + 15 ≤ length ends) × (number_on ends q ≤ 14)
-  unfolding listed?
-  listed_out t = let z = and_out (leb (slot q + 15) (length ends)) (leb (number_on ends q) 14) t in (leb-true _ _ z.0, leb-true _ _ z.1)

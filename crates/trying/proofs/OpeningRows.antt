@@ -3,7 +3,7 @@ use mathlib.Core.Path.{◌≡◌, refl, sym, ap, ◌∙◌, subst}
 use mathlib.Core.Bool.{true, false}
 use mathlib.Core.Logic.{⊎_elim}
 use mathlib.Core.List.{List, ◌∷◌}
-use Prim.Native.Nat.{ℕ, ◌+◌, ◌-◌, ◌%◌, ◌≤◌, ◌<◌}
+use Prim.Native.Nat.{ℕ, ◌+◌, ◌%◌, ◌≤◌, ◌<◌}
 use native.Mathlib.Omega.{arith}
 use lib.ListN.{length, get_or, set, drop, drop_of_length-le, length-set}
 use Rattle.binary.specs.Meaning.{Qubits, has}
@@ -26,16 +26,15 @@ module _ (q r first count : ℕ) (lit old : List ℕ) where
   pub row_passed : Other first count lit r → RowOpened q r first count lit old old
   row_passed f = record { long = refl; opens = λ i a. absurd (f i a); passes = λ g. refl }
 
-  module _ (l : first ≤ r) (m : r - first < count) (t : read? lit r ≡ true) (few : count ≤ 512) (long : 10240 ≤ length old) (mid : List ℕ) (raise : Raised (r - first) old mid) where
+  module _ (i : ℕ) (is : r ≡ first + i) (m : i < count) (t : read? lit r ≡ true) (few : count ≤ 512) (long : 10240 ≤ length old) (mid : List ℕ) (raise : Raised i old mid) where
     abbrev new : List ℕ
-    new = set mid (9216 + (r - first)) ((get_or mid (9216 + (r - first)) 0 % 65536 + q) % 65536)
+    new = set mid (9216 + i) ((get_or mid (9216 + i) 0 % 65536 + q) % 65536)
 
     abbrev Put : ℕ → Type 0
-    Put i = EntryPut i (opened q (entry_in old i)) old new
+    Put j = EntryPut j (opened q (entry_in old j)) old new
 
-    put_own : get_or old (8704 + (r - first)) 0 < 1024 → Put (r - first)
+    put_own : get_or old (8704 + i) 0 < 1024 → Put i
     put_own less =
-        let i = r - first in
         let more : get_or old (8704 + i) 0 % 1024 + 1 ≡ get_or old (8704 + i) 0 + 1 = omega arith in
         let v = number_put i (get_or old (8704 + i) 0 + 1) old mid (subst (λ (y : ℕ). Numbered i y old mid) more (raise.raised (omega arith) (omega arith))) raise.past in
         let same = raise.past (9216 + i) (omega arith) in
@@ -44,9 +43,9 @@ module _ (q r first count : ℕ) (lit old : List ℕ) where
     pub row_opened : RowOpened q r first count lit old new
     row_opened =
         record {
-          long = length-set mid (9216 + (r - first)) ((get_or mid (9216 + (r - first)) 0 % 65536 + q) % 65536) ∙ raise.long;
-          opens = λ i a less. let d : r - first ≡ i = omega (arith, a.is) in subst Put d (put_own (subst (λ (x : ℕ). get_or old (8704 + x) 0 < 1024) (sym d) less));
-          passes = λ f. absurd (f (r - first) (record { is = omega arith; within = m; read = t }));
+          long = length-set mid (9216 + i) ((get_or mid (9216 + i) 0 % 65536 + q) % 65536) ∙ raise.long;
+          opens = λ j a less. let d : i ≡ j = omega (arith, a.is) in subst Put d (put_own (subst (λ (x : ℕ). get_or old (8704 + x) 0 < 1024) (sym d) less));
+          passes = λ f. absurd (f i (record { is = is; within = m; read = t }));
         }
 
 ----------------------------------------------------------------------

@@ -13,11 +13,11 @@ use Rattle.binary.specs.Bits.{◌⊕◌}
 use Rattle.binary.specs.Meaning.{Qubits, has, odd}
 use Rattle.binary.proofs.Bits.{bit, never, and_out, &&_true, &&_false}
 use Rattle.machine.specs.Machine.{Form, Forms, on, is_open, put, part, closed?, side, dangling, take_if, take_up_all, closing, stage}
-use Rattle.machine.specs.Lists.{view, forms_of, digit, lit?}
+use Rattle.machine.specs.Lists.{view, forms_of, digit}
 use Rattle.machine.proofs.Settling.{side_top, part_open}
 use Rattle.machine.proofs.Stages.{open_put}
 use Rattle.forms.specs.Forms.{with_live}
-use Rattle.scans.specs.Rows.{RowLists, rows_in, check_in, read_in?, row_checks}
+use Rattle.scans.specs.Rows.{RowLists, check_in, read_in?, row_checks}
 use Rattle.scans.proofs.Scanning.{open_read, open_below_lem, open_inside, one_less_lem}
 use Rattle.kept.specs.Kept.{dangles?, Kept, Lowest}
 use Rattle.kept.proofs.Same.{kept_by}
@@ -29,8 +29,8 @@ use Rattle.turns.specs.Turns.{Working, Stays, turn_by}
 use Rattle.turns.proofs.Turning.{closing_test}
 use Rattle.turns.proofs.Stays.{stays_same}
 use Rattle.trying.specs.declared.Peel.TheVariants.{Unknown, NoRow, Made}
-use Rattle.trying.specs.Entries.{Entry, entry_in, entry_of, Tracks}
-use Rattle.trying.specs.Turns.{values_of, Ready, SettledAs, QubitSettled, reopened, PeeledAs, Peels}
+use Rattle.trying.specs.Entries.{Entry, entry_in, entry_of, Tracks, rows_over}
+use Rattle.trying.specs.Turns.{values_of, Ready, SettledAs, QubitSettled, reopened, PeeledAs, PeelBy, Peels}
 
 pub kept_of_lem : (o x : Qubits) (c : RowLists) (work : List ℕ) → Tracks o x c work → Kept o c work
 kept_of_lem o x c work t = kept_by o c work (λ i h. ap (λ (e : Entry). e.number) (t.entries i h)) t.tallied
@@ -139,12 +139,12 @@ module _ (n : ℕ) (c : RowLists) (old : Working) (r : ℕ) (low : Lowest c.coun
 row_counts : (work : List ℕ) {count : ℕ} (r : ℕ) → Lowest count work r → r < count → get_or work 8200 0 ≡ 0 → ⊥
 row_counts work r low h z = let e = low.by_total z in omega arith
 
-module _ (n : ℕ) (ends lit : List ℕ) (first count : ℕ) (old : Working) where
-  pub peels_unknown : (new : Working) (r : ℕ) → Lowest count old.work r → r < count → Stays n old new → ((q : ℕ) → reopened (get_or new.marks q 0) ≡ reopened (get_or old.marks q 0)) → Peels n ends lit first count old new Unknown
+module _ (n : ℕ) (c : RowLists) (old : Working) where
+  pub peels_unknown : (new : Working) (r : ℕ) → Lowest c.count old.work r → r < c.count → Stays n old new → ((q : ℕ) → reopened (get_or new.marks q 0) ≡ reopened (get_or old.marks q 0)) → Peels n c old new Unknown
   peels_unknown new r low h s m = record { stays = s; by_total = λ z. absurd (row_counts old.work r low h z); marks = m; by_set = λ e. let z : ◌≡◌ {A = Bool} true false = cc in never refl z; one = λ e. let z : ◌≡◌ {A = Bool} true false = cc in never refl z; idle = λ e. let z : ◌≡◌ {A = Bool} true false = cc in never refl z; no_row = λ e. let z : ◌≡◌ {A = Bool} true false = cc in never refl z; made = λ e. let z : ◌≡◌ {A = Bool} true false = cc in never refl z }
 
   -- The mark of an open qubit is another, and opens again.
-  pub settled_marks : (p v : ℕ) (new : Working) (told : Bool) → is_open (view n old.marks) p ≡ true → QubitSettled n ends lit first count p v old new told
+  pub settled_marks : (p v : ℕ) (new : Working) (told : Bool) → is_open (view n old.marks) p ≡ true → QubitSettled n c p v old new told
       → (q : ℕ) → reopened (get_or new.marks q 0) ≡ reopened (get_or old.marks q 0)
   settled_marks p v new told is_open_lem s q =
       rw s.mark
@@ -155,8 +155,8 @@ module _ (n : ℕ) (ends lit : List ℕ) (first count : ℕ) (old : Working) whe
       was : get_or old.marks p 0 ≡ 4
       was = eqb-true (get_or old.marks p 0) 4 (open_read n old.marks p (open_below_lem n old.marks p is_open_lem) ∙ is_open_lem)
 
-  module _ (r : ℕ) (low : Lowest count old.work r) (long : 10240 ≤ length old.work) where
-    pub peels_none : count ≤ r → Peels n ends lit first count old old NoRow
+  module _ (r : ℕ) (low : Lowest c.count old.work r) (long : 10240 ≤ length old.work) where
+    pub peels_none : c.count ≤ r → Peels n c old old NoRow
     peels_none h =
         record {
           stays = stays_same n old;
@@ -165,22 +165,21 @@ module _ (n : ℕ) (ends lit : List ℕ) (first count : ℕ) (old : Working) whe
           one = λ e. let z : ◌≡◌ {A = Bool} true false = cc in never refl z;
           marks = λ q. refl;
           idle = λ e. refl;
-          no_row = λ e flat good ready. none_dangles n (rows_in flat ends first count lit) old r low long ready h;
+          no_row = λ e flat good ready. none_dangles n (rows_over flat c) old r low long ready h;
           made = λ e. let z : ◌≡◌ {A = Bool} true false = cc in never refl z;
         }
 
-    pub peels_made : r < count → n ≤ 1024 → (p v lights : ℕ) → p ≡ get_or old.work (9216 + r) 0 → v ≡ (get_or old.work (9728 + r) 0 % 2 + lights) % 2
-        → lights ≡ digit (lit? (get_or lit (first + r) 0)) → is_open (view n old.marks) p ≡ true → (new : Working) (told : Bool) → told ≡ true → QubitSettled n ends lit first count p v old new told
-        → Peels n ends lit first count old new Made
-    peels_made h size p v lights is_sum value lit-bit is_open_lem new told t s =
+    pub peels_made : r < c.count → n ≤ 1024 → (p v : ℕ) → PeelBy n c old r p v → (new : Working) (told : Bool) → told ≡ true → QubitSettled n c p v old new told
+        → Peels n c old new Made
+    peels_made h size p v by new told t s =
         record {
           stays = s.stays;
           by_total = λ z. absurd (row_counts old.work r low h z);
           by_set = λ e. let z : ◌≡◌ {A = Bool} true false = cc in never refl z;
-          one = λ e. rw s.mark (one_less_lem n old.marks p 2 is_open_lem refl);
-          marks = settled_marks p v new told is_open_lem s;
+          one = λ e. rw s.mark (one_less_lem n old.marks p 2 by.opened refl);
+          marks = settled_marks p v new told by.opened s;
           idle = λ e. let z : ◌≡◌ {A = Bool} true false = cc in never refl z;
           no_row = λ e. let z : ◌≡◌ {A = Bool} true false = cc in never refl z;
           made = λ e flat good ready.
-              peeled_as n (rows_in flat ends first count lit) old r low long ready h size p v is_sum (value ∙ ap (λ (y : ℕ). (get_or old.work (9728 + r) 0 % 2 + y) % 2) lit-bit) (open_below_lem n old.marks p is_open_lem) is_open_lem new (s.settles t flat good ready is_open_lem);
+              peeled_as n (rows_over flat c) old r low long ready h size p v by.sum by.side (open_below_lem n old.marks p by.opened) by.opened new (s.settles t flat good ready by.opened);
         }

@@ -2,17 +2,17 @@
 use mathlib.Core.Path.{◌≡◌, refl, sym, ap, ap₂, ◌∙◌, subst}
 use mathlib.Core.Bool.{Bool, true, false}
 use mathlib.Core.List.{List, [], ◌∷◌}
-use Prim.Native.Nat.{ℕ, ◌+◌, ◌%◌, ◌≤◌, ◌<◌}
+use Prim.Native.Nat.{ℕ, ◌+◌, ◌%◌, ◌<◌}
 use native.Mathlib.Omega.{arith}
 use lib.Dec.{eqb}
-use lib.ListN.{length, get_or, get_or-eq_default}
+use lib.ListN.{length}
 use borrow.Author.Tests.{eqb-true, eqb-false, eq-eqb, ne_eqb}
 use Rattle.binary.specs.Bits.{◌⊕◌}
 use Rattle.binary.specs.Meaning.{Qubits, Row, has, odd}
 use Rattle.binary.proofs.Bits.{bit, never, ⊕_left_comm}
 use Rattle.code.specs.Tests.{Distinct}
 use Rattle.machine.specs.Machine.{put}
-use Rattle.machine.specs.Lists.{digit, lit?}
+use Rattle.machine.specs.Lists.{digit}
 use Rattle.kept.proofs.Lowering.{not_has, one_less_lem, summed_less}
 use Rattle.kept.proofs.Raising.{same_open, one_more_lem, summed_more}
 use Rattle.trying.specs.Entries.{Entry, entry_of, total, opened, settled}
@@ -84,16 +84,3 @@ module _ (o x : Qubits) (p v : ℕ) (r : Row) where
       let less = summed_less (λ q. q) o p r d t e in
       same_entry (settled p v (entry_of o x r)) (entry_of (put p false o) (put p (eqb v 1) x) r) (omega (arith, one_less_lem o p r d t e)) (omega (arith, less))
       (parity_on (odd x r) v bound ∙ ap digit (sym (odd_on x p (eqb v 1) r d f e)))
-
-----------------------------------------------------------------------
--- A row's lit bit
-
-module _ (lit : List ℕ) (r : ℕ) where
-  pub lit_past : length lit ≤ r → 0 ≡ digit (lit? (get_or lit r 0))
-  lit_past h = rw (get_or-eq_default {A = ℕ} lit 0 h)
-
-  pub lit_yes : get_or lit r 0 ≡ 1 → 1 ≡ digit (lit? (get_or lit r 0))
-  lit_yes e = rw e
-
-  pub lit_no : (get_or lit r 0 ≡ 1 → ⊥) → 0 ≡ digit (lit? (get_or lit r 0))
-  lit_no f = rw (ne_eqb (get_or lit r 0) 1 f)

@@ -8,18 +8,17 @@ use lib.Dec.{eqb}
 use lib.ListN.{length, set, length-set}
 use Rattle.binary.specs.Meaning.{Qubits}
 use Rattle.binary.proofs.Bits.{bit, never, &&_true, &&_false, eqb_differ}
-use Rattle.incidence.specs.Incidence.{rows_on}
+use Rattle.incidence.specs.Incidence.{number_on, rows_on}
 use Rattle.machine.specs.Machine.{Form, is_open, put}
 use Rattle.machine.specs.Lists.{view, forms_of}
 use Rattle.machine.proofs.Stages.{open_put}
-use Rattle.scans.specs.Rows.{RowLists, rows_in}
+use Rattle.scans.specs.Rows.{RowLists}
 use Rattle.scans.proofs.Scanning.{view_set, rest_set}
 use Rattle.turns.specs.Turns.{Working, Stays}
-use Rattle.trying.specs.Entries.{Tracks, ReadRight, listed?, RowsSettled}
+use Rattle.trying.specs.Entries.{Tracks, ReadRight, rows_over, RowsSettled}
 use Rattle.trying.specs.Turns.{values_of, Ready, ValuePut, SettledAs, QubitSettled}
-use Rattle.trying.proofs.OnQubit.{listed_out}
 
-module _ (n : ℕ) (ends lit : List ℕ) (first count p v : ℕ) (old : Working) (forms' : List ℕ) (below : p < n) (in_marks : p < length old.marks) (w : ValuePut n p v old.forms forms') where
+module _ (n : ℕ) (c₀ : RowLists) (p v : ℕ) (old : Working) (forms' : List ℕ) (below : p < n) (in_marks : p < length old.marks) (w : ValuePut n p v old.forms forms') where
   abbrev marks' : List ℕ
   marks' = set old.marks p 2
 
@@ -28,9 +27,6 @@ module _ (n : ℕ) (ends lit : List ℕ) (first count p v : ℕ) (old : Working)
 
   stays : (work' : List ℕ) → length work' ≡ length old.work → Stays n old (with_work work')
   stays work' e = record { marks_long = length-set old.marks p 2; forms_long = w.long; work_long = e; marks_rest = rest_set n old.marks p 2 below; forms_rest = w.rest }
-
-  pub settled_not : QubitSettled n ends lit first count p v old (with_work old.work) false
-  settled_not = record { stays = stays old.work refl; mark = refl; settles = λ t. never t refl }
 
   abbrev o : Qubits
   o = is_open (view n old.marks)
@@ -80,13 +76,13 @@ module _ (n : ℕ) (ends lit : List ℕ) (first count p v : ℕ) (old : Working)
           right = subst (λ (s : Qubits). ReadRight p (put p false o) s c) (sym values_are) z.1;
         }
 
-  pub qubit_settled : n ≤ 1024 → listed? ends p ≡ true → (on : List ℕ) → on ≡ rows_on ends p → (work' : List ℕ) (told : Bool) → RowsSettled p v on first count lit old.work work' told
-      → QubitSettled n ends lit first count p v old (with_work work') told
+  pub qubit_settled : n ≤ 1024 → number_on c₀.ends p ≤ 14 → (on : List ℕ) → on ≡ rows_on c₀.ends p → (work' : List ℕ) (told : Bool) → RowsSettled p v on c₀.first c₀.count c₀.lit old.work work' told
+      → QubitSettled n c₀ p v old (with_work work') told
   qubit_settled size listed on same work' told s =
       record {
         stays = stays work' s.long;
         mark = refl;
         settles = λ t flat good ready is_open_lem.
-            settled_as (rows_in flat ends first count lit) ready is_open_lem work'
-            (s.settles t flat ends (listed_out ends p listed).1 same n size below good o x is_open_lem (ready.blank p is_open_lem) ready.tracks);
+            settled_as (rows_over flat c₀) ready is_open_lem work'
+            (s.settles t flat c₀.ends listed same n size below good o x is_open_lem (ready.blank p is_open_lem) ready.tracks);
       }

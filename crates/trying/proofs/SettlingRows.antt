@@ -49,59 +49,58 @@ module _ (p value r first count : ℕ) (lit old : List ℕ) where
   pub row_passed : Other first count old r → RowSettled p value r first count lit old old true
   row_passed f = record { long = refl; settles = λ i a. absurd (f i a); tallied = λ i a. absurd (f i a); reads = λ t i a. absurd (f i a); passes = λ g. refl }
 
-  pub row_closed : get_or old (8704 + (r - first)) 0 ≡ 0 → RowSettled p value r first count lit old old true
-  row_closed e = row_passed (λ i a. let d : i ≡ r - first = omega (arith, a.is) in omega (arith, e, rw d at a.some_open_lem))
+  module _ (i : ℕ) (is : r ≡ first + i) (m : i < count) where
+    pub row_closed : get_or old (8704 + i) 0 ≡ 0 → RowSettled p value r first count lit old old true
+    row_closed e = row_passed (λ j a. let d : j ≡ i = omega (arith, a.is) in omega (arith, e, rw d at a.some_open_lem))
 
-  module _ (l : first ≤ r) (m : r - first < count) (t : get_or old (8704 + (r - first)) 0 ≡ 0 → ⊥) (few : count ≤ 512) (long : 10240 ≤ length old) (mid : List ℕ) (left : ℕ)
-      (low : Lowered (r - first) old mid left) where
-    abbrev sum : ℕ
-    sum = (get_or mid (9216 + (r - first)) 0 % 65536 + 65536 - p) % 65536
+    module _ (t : get_or old (8704 + i) 0 ≡ 0 → ⊥) (few : count ≤ 512) (long : 10240 ≤ length old) (mid : List ℕ) (left : ℕ) (low : Lowered i old mid left) where
+      abbrev sum : ℕ
+      sum = (get_or mid (9216 + i) 0 % 65536 + 65536 - p) % 65536
 
-    abbrev parity : ℕ
-    parity = (get_or mid (9728 + (r - first)) 0 % 2 + value) % 2
+      abbrev parity : ℕ
+      parity = (get_or mid (9728 + i) 0 % 2 + value) % 2
 
-    abbrev new : List ℕ
-    new = set (set mid (9216 + (r - first)) sum) (9728 + (r - first)) parity
+      abbrev new : List ℕ
+      new = set (set mid (9216 + i) sum) (9728 + i) parity
 
-    abbrev Put : ℕ → Type 0
-    Put i = EntryPut i (settled p value (entry_in old i)) old new
+      abbrev Put : ℕ → Type 0
+      Put j = EntryPut j (settled p value (entry_in old j)) old new
 
-    lowered : (left + 1 ≡ get_or old (8704 + (r - first)) 0) × Numbered (r - first) left old mid × Retallied (r - first) old mid
-    lowered = low.lowered (omega arith) (omega arith) (omega arith)
+      lowered : (left + 1 ≡ get_or old (8704 + i) 0) × Numbered i left old mid × Retallied i old mid
+      lowered = low.lowered (omega arith) (omega arith) (omega arith)
 
-    parity_was : get_or mid (9728 + (r - first)) 0 ≡ get_or old (9728 + (r - first)) 0
-    parity_was = low.past (9728 + (r - first)) (omega arith)
+      parity_was : get_or mid (9728 + i) 0 ≡ get_or old (9728 + i) 0
+      parity_was = low.past (9728 + i) (omega arith)
 
-    put_own : Put (r - first)
-    put_own =
-        let i = r - first in
-        let z = lowered in
-        let less : left ≡ get_or old (8704 + i) 0 - 1 = omega (arith, z.0) in
-        let sum-was = low.past (9216 + i) (omega arith) in
-        let v = number_put i left old mid z.1 low.past in
-        let w = element_put i _ old mid v (omega arith) 18 sum (omega arith) (omega (arith, low.long)) in
-        subst (λ (f : Entry). EntryPut i f old new) (λ j. record { number = less j; sum = (sum-was j % 65536 + 65536 - p) % 65536; parity = (parity_was j % 2 + value) % 2 })
-        (element_put i _ old (set mid (9216 + i) sum) w (omega arith) 19 parity (omega arith) (omega (arith, low.long, length-set mid (9216 + i) sum)))
+      put_own : Put i
+      put_own =
+          let z = lowered in
+          let less : left ≡ get_or old (8704 + i) 0 - 1 = omega (arith, z.0) in
+          let sum-was = low.past (9216 + i) (omega arith) in
+          let v = number_put i left old mid z.1 low.past in
+          let w = element_put i _ old mid v (omega arith) 18 sum (omega arith) (omega (arith, low.long)) in
+          subst (λ (f : Entry). EntryPut i f old new) (λ j. record { number = less j; sum = (sum-was j % 65536 + 65536 - p) % 65536; parity = (parity_was j % 2 + value) % 2 })
+          (element_put i _ old (set mid (9216 + i) sum) w (omega arith) 19 parity (omega arith) (omega (arith, low.long, length-set mid (9216 + i) sum)))
 
-    beside : (k : ℕ) → k < 9216 → get_or new k 0 ≡ get_or mid k 0
-    beside k h =
-        get_or-set_other (set mid (9216 + (r - first)) sum) (9728 + (r - first)) k parity 0 (λ e. omega arith) ∙ get_or-set_other mid (9216 + (r - first)) k sum 0 (λ e. omega arith)
+      beside : (k : ℕ) → k < 9216 → get_or new k 0 ≡ get_or mid k 0
+      beside k h =
+          get_or-set_other (set mid (9216 + i) sum) (9728 + i) k parity 0 (λ e. omega arith) ∙ get_or-set_other mid (9216 + i) k sum 0 (λ e. omega arith)
 
-    retallied : Retallied (r - first) old new
-    retallied n h k t = tallied_same n mid new h (λ j u. beside (8192 + j) (omega arith)) (λ j u. beside (8704 + j) (omega arith)) (lowered.2 n h k t)
+      retallied : Retallied i old new
+      retallied n h k t = tallied_same n mid new h (λ j u. beside (8192 + j) (omega arith)) (λ j u. beside (8704 + j) (omega arith)) (lowered.2 n h k t)
 
-    pub row_settled : (told : Bool) → (told ≡ true → left ≡ 0 → parity ≡ digit (lit? (get_or lit r 0))) → RowSettled p value r first count lit old new told
-    row_settled told reads =
-        record {
-          long = length-set (set mid (9216 + (r - first)) sum) (9728 + (r - first)) parity ∙ length-set mid (9216 + (r - first)) sum ∙ low.long;
-          settles = λ i a. let d : r - first ≡ i = omega (arith, a.is) in subst Put d put_own;
-          tallied = λ i a. let d : r - first ≡ i = omega (arith, a.is) in subst (λ (y : ℕ). Retallied y old new) d retallied;
-          reads = λ u i a none_left.
-              let d : i ≡ r - first = omega (arith, a.is) in
-              let z = lowered in
-              rw d (sym (ap (λ (y : ℕ). (y % 2 + value) % 2) parity_was) ∙ reads u (omega (arith, z.0, rw d at none_left)));
-          passes = λ f. absurd (f (r - first) (record { is = omega arith; within = m; some_open_lem = omega arith }));
-        }
+      pub row_settled : (told : Bool) → (told ≡ true → left ≡ 0 → parity ≡ digit (lit? (get_or lit r 0))) → RowSettled p value r first count lit old new told
+      row_settled told reads =
+          record {
+            long = length-set (set mid (9216 + i) sum) (9728 + i) parity ∙ length-set mid (9216 + i) sum ∙ low.long;
+            settles = λ j a. let d : i ≡ j = omega (arith, a.is) in subst Put d put_own;
+            tallied = λ j a. let d : i ≡ j = omega (arith, a.is) in subst (λ (y : ℕ). Retallied y old new) d retallied;
+            reads = λ u j a none_left.
+                let d : j ≡ i = omega (arith, a.is) in
+                let z = lowered in
+                rw d (sym (ap (λ (y : ℕ). (y % 2 + value) % 2) parity_was) ∙ reads u (omega (arith, z.0, rw d at none_left)));
+            passes = λ f. absurd (f i (record { is = is; within = m; some_open_lem = omega arith }));
+          }
 
 ----------------------------------------------------------------------
 -- The rows of a list

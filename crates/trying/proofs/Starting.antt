@@ -1,6 +1,6 @@
 -- The start of a try: no qubit is open, then each that is marked so; the dangling rows. Assumes nothing.
 use mathlib.Core.Path.{◌≡◌, refl, sym, ap, ◌∙◌, subst}
-use mathlib.Core.Bool.{Bool, true, false}
+use mathlib.Core.Bool.{true, false}
 use mathlib.Core.Logic.{inl}
 use mathlib.Core.List.{List}
 use Prim.Native.Nat.{ℕ, suc, ◌+◌, ◌%◌, ◌≤◌, ◌<◌}
@@ -8,23 +8,23 @@ use native.Mathlib.Numerals.{add-one}
 use native.Mathlib.Omega.{arith}
 use lib.ListN.{length, get_or}
 use borrow.Author.Tests.{eq-eqb, ne_eqb}
+use Rattle.std.specs.Prelude.{Some}
 use Rattle.binary.specs.Bits.{tally}
 use Rattle.binary.specs.Meaning.{Qubits, no_qubit, Row}
-use Rattle.binary.proofs.Bits.{never, tally_few}
+use Rattle.binary.proofs.Bits.{tally_few}
 use Rattle.binary.proofs.Rows.{odd_none}
 use Rattle.lists.specs.Cleared.{Cleared}
-use Rattle.incidence.specs.Incidence.{rows_on}
+use Rattle.incidence.specs.Incidence.{number_on, rows_on}
 use Rattle.machine.specs.Machine.{is_open}
 use Rattle.machine.specs.Lists.{view, digit}
-use Rattle.scans.specs.Rows.{RowLists, rows_in, GoodRows}
+use Rattle.scans.specs.Rows.{RowLists, GoodRows}
 use Rattle.scans.proofs.Scanning.{open_past, open_read}
 use Rattle.kept.specs.Kept.{row_in, Finds}
 use Rattle.filling.proofs.OpenBelow.{part_none, open_below, below_none, below_own, below_pass, below_put, below_all}
-use Rattle.trying.specs.declared.Opened.TheVariants.{Unlisted, Open}
-use Rattle.trying.specs.Entries.{entry_in, entry_of, total, HasEntries, Tracks, listed?, RowsOpened}
+use Rattle.turns.specs.Turns.{Working}
+use Rattle.trying.specs.Entries.{entry_in, entry_of, total, HasEntries, Tracks, rows_over, RowsOpened}
 use Rattle.trying.specs.Start.{RowsCleared, AllOpened, MarkedOpened}
 use Rattle.trying.proofs.RowNumbers.{same_entry}
-use Rattle.trying.proofs.OnQubit.{listed_out}
 
 ----------------------------------------------------------------------
 -- No qubit is open
@@ -52,29 +52,29 @@ module _ (count : ℕ) (old b d new : List ℕ) (few : count ≤ 512) (numbers :
 -- Each qubit that is marked open is open
 
 -- Those below q.
-pub record Reached (n : ℕ) (ends lit : List ℕ) (first count : ℕ) (marks work₀ : List ℕ) (q : ℕ) (work : List ℕ) (number : ℕ) : Type 0 where
+pub record Reached (n : ℕ) (c : RowLists) (marks work₀ : List ℕ) (q : ℕ) (work : List ℕ) (number : ℕ) : Type 0 where
   pub long : length work ≡ length work₀
   pub counted : number ≡ tally q (is_open (view n marks))
-  pub entries : (flat : List ℕ) → let c = rows_in flat ends first count lit in GoodRows n c → HasEntries no_qubit no_qubit c work₀
-      → HasEntries (open_below (is_open (view n marks)) q) no_qubit c work
+  pub entries : (flat : List ℕ) → let d = rows_over flat c in GoodRows n d → HasEntries no_qubit no_qubit d work₀
+      → HasEntries (open_below (is_open (view n marks)) q) no_qubit d work
 
-module _ (n : ℕ) (ends lit : List ℕ) (first count : ℕ) (marks work₀ : List ℕ) where
+module _ (n : ℕ) (c : RowLists) (marks work₀ : List ℕ) where
   abbrev rows : List ℕ → RowLists
-  rows flat = rows_in flat ends first count lit
+  rows flat = rows_over flat c
 
   abbrev o : Qubits
   o = is_open (view n marks)
 
-  pub reached_none : Reached n ends lit first count marks work₀ 0 work₀ 0
+  pub reached_none : Reached n c marks work₀ 0 work₀ 0
   reached_none = record { long = refl; counted = refl; entries = λ flat good t. subst (λ (s : Qubits). HasEntries s no_qubit (rows flat) work₀) (sym (below_none o)) t }
 
-  module _ (q : ℕ) (work : List ℕ) (number : ℕ) (s : Reached n ends lit first count marks work₀ q work number) where
+  module _ (q : ℕ) (work : List ℕ) (number : ℕ) (s : Reached n c marks work₀ q work number) where
     pub reached_few : number ≤ q
     reached_few = let e = s.counted in omega (arith, tally_few q o)
 
     -- Qubit q, which is open or not.
     module _ (h : q < n) where
-      pub reached_shut : (get_or marks q 0 ≡ 4 → ⊥) → Reached n ends lit first count marks work₀ (q + 1) work number
+      pub reached_shut : (get_or marks q 0 ≡ 4 → ⊥) → Reached n c marks work₀ (q + 1) work number
       reached_shut f =
           record {
             long = s.long;
@@ -85,39 +85,39 @@ module _ (n : ℕ) (ends lit : List ℕ) (first count : ℕ) (marks work₀ : Li
           e : o q ≡ false
           e = sym (open_read n marks q h) ∙ ne_eqb (get_or marks q 0) 4 f
 
-      pub reached_open : n ≤ 1024 → get_or marks q 0 ≡ 4 → listed? ends q ≡ true → (on : List ℕ) → on ≡ rows_on ends q → (work' : List ℕ) → RowsOpened q on first count lit work work'
-          → Reached n ends lit first count marks work₀ (q + 1) work' (number + 1)
-      reached_open size f told on same work' v =
+      pub reached_open : n ≤ 1024 → get_or marks q 0 ≡ 4 → number_on c.ends q ≤ 14 → (on : List ℕ) → on ≡ rows_on c.ends q → (work' : List ℕ) → RowsOpened q on c.first c.count c.lit work work'
+          → Reached n c marks work₀ (q + 1) work' (number + 1)
+      reached_open size f listed on same work' v =
           record {
             long = v.long ∙ s.long;
             counted = add-one number ∙ ap suc s.counted ∙ rw (add-one q, e);
             entries = λ flat good t.
                 subst (λ (x : Qubits). HasEntries x no_qubit (rows flat) work') (below_put o q e)
-                (v.opens flat ends (listed_out ends q told).1 same n size h good (open_below o q) no_qubit (below_own o q) (s.entries flat good t));
+                (v.opens flat c.ends listed same n size h good (open_below o q) no_qubit (below_own o q) (s.entries flat good t));
           }
         where
           e : o q ≡ true
           e = sym (open_read n marks q h) ∙ eq-eqb (get_or marks q 0) 4 f
 
-    pub reached_not : MarkedOpened n ends lit first count marks work₀ work Unlisted
-    reached_not = record { long = s.long; all = λ k i. let z : ◌≡◌ {A = Bool} true false = cc in never refl z }
+-- Where all are passed. Marks and forms stay.
+pub opened_all : (n : ℕ) (c : RowLists) (old new : Working) → new.marks ≡ old.marks → new.forms ≡ old.forms → (q number : ℕ) → Reached n c old.marks old.work q new.work number
+    → q ≤ n → n ≤ q → MarkedOpened n c old new (Some number)
+opened_all n c old new marks forms q number s h l =
+    record {
+      stays = λ i. record { marks = marks i; forms = forms i; work = new.work };
+      long = s.long;
+      all = λ k i. let same : number ≡ k = cc in subst (AllOpened n c old.marks old.work new.work) same all_open;
+    }
+  where
+    end : q ≡ n
+    end = omega arith
 
-    pub reached_all : q ≤ n → n ≤ q → MarkedOpened n ends lit first count marks work₀ work (Open number)
-    reached_all h l =
-        record {
-          long = s.long;
-          all = λ k i. let same : number ≡ k = cc in subst (AllOpened n ends lit first count marks work₀ work) same all_open;
-        }
-      where
-        end : q ≡ n
-        end = omega arith
-
-        all_open : AllOpened n ends lit first count marks work₀ work number
-        all_open = record {
-          number = s.counted ∙ ap (λ (k : ℕ). tally k o) end;
-          entries = λ flat good t.
-              subst (λ (x : Qubits). HasEntries x no_qubit (rows flat) work) (below_all o q (λ p m. sym (open_past n marks p (omega arith)))) (s.entries flat good t);
-        }
+    all_open : AllOpened n c old.marks old.work new.work number
+    all_open = record {
+      number = s.counted ∙ ap (λ (k : ℕ). tally k (is_open (view n old.marks))) end;
+      entries = λ flat good t.
+          subst (λ (x : Qubits). HasEntries x no_qubit (rows_over flat c) new.work) (below_all (is_open (view n old.marks)) q (λ p m. sym (open_past n old.marks p (omega arith)))) (s.entries flat good t);
+    }
 
 ----------------------------------------------------------------------
 -- The dangling rows found

@@ -3,16 +3,16 @@
 --   Entry        the three numbers of a row; entry_in: those that a list has
 --   entry_of      those of a row, of the open qubits and the values of the settled ones; an open one has none, and counts as 0
 --   HasEntries   a list has those of each row of the half; Tracks: and the dangling rows
+--   rows_over    the rows with another list of qubits, which is not read
 --   EntryPut     a row's three numbers written
---   listed?      all rows on a qubit are listed with the code
 --   opened       a row's numbers with an open qubit more; settled: with one less, which has a value
 --   RowOpened    a row has an open qubit more; Opens: so has each row on a qubit; RowsOpened: from the list of these rows
 --   RowSettled   a row has an open qubit less; Settles: so has each row on a qubit; RowsSettled: from the list of these rows
 --   ReadRight    the rows on a qubit that are closed fire exactly if they are lit
-use Rattle.std.specs.Prelude.{◌≡◌, Bool, true, false, ◌&&◌, cond, List, ℕ, ◌+◌, ◌-◌, ◌%◌, ◌≤◌, ◌<◌, eqb, leb, length, get_or}
+use Rattle.std.specs.Prelude.{◌≡◌, Bool, true, false, cond, List, ℕ, ◌+◌, ◌-◌, ◌%◌, ◌≤◌, ◌<◌, eqb, length, get_or}
 use Rattle.binary.specs.Bits.{summed}
 use Rattle.binary.specs.Meaning.{Qubits, Row, has, odd}
-use Rattle.incidence.specs.Incidence.{slot, number_on, rows_on}
+use Rattle.incidence.specs.Incidence.{number_on, rows_on}
 use Rattle.machine.specs.Machine.{part, put, closed?}
 use Rattle.machine.specs.Lists.{digit, lit?}
 use Rattle.scans.specs.Rows.{RowLists, rows_in, check_in, read_in?, GoodRows}
@@ -44,12 +44,12 @@ pub record Tracks (o x : Qubits) (c : RowLists) (work : List ℕ) : Type 0 where
   pub entries : HasEntries o x c work
   pub tallied : Tallied c.count work
 
+abbrev pub rows_over : List ℕ → RowLists → RowLists
+rows_over flat c = rows_in flat c.ends c.first c.count c.lit
+
 -- Row i has these numbers, the other rows keep theirs.
 abbrev pub EntryPut : ℕ → Entry → List ℕ → List ℕ → Type 0
 EntryPut i e old new = (j : ℕ) → j < 512 → entry_in new j ≡ cond (eqb i j) e (entry_in old j)
-
-unfoldable pub listed? : List ℕ → ℕ → Bool
-listed? ends q = leb (slot q + 15) (length ends) && leb (number_on ends q) 14
 
 ----------------------------------------------------------------------
 -- A qubit becomes open

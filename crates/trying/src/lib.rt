@@ -2,15 +2,18 @@
 // row in three numbers, and no row's qubits are read.
 #![tactic(auto)]
 
-ghost use Rattle.std.specs.Prelude.{◌≡◌, ◌+◌, ◌*◌, ◌≤◌, length};
+ghost use Rattle.std.specs.Prelude.{◌≡◌};
+ghost use Rattle.scans.specs.Half.{rows_of};
+ghost use Rattle.turns.specs.Lent.{working, SameLists, Room};
 ghost use Rattle.trying.specs.Trying.{enough?, Tried, Tries};
 
 mod entries;
 mod peels;
 mod start;
 
-use code::Rows;
 use machine::HalfReport;
+use scans::HalfRows;
+use turns::WorkingLists;
 
 // The answer of a try: nothing is known, so many turns lead where no row dangles and a qubit is left, or the report of the half, which is certain.
 #[derive(Clone, Copy)]
@@ -18,13 +21,6 @@ pub enum TryAnswer {
     Unknown,
     Left(u16),
     Over(HalfReport),
-}
-
-// How many qubits are open at the start, or that not all rows on an open qubit are listed.
-#[derive(Clone, Copy)]
-enum Opened {
-    Unlisted,
-    Open(u16),
 }
 
 // A turn made; or no row dangles; or the half may end in none, or lists were altered.
@@ -36,70 +32,52 @@ enum Peel {
 }
 
 // Whether the sizes are document 01's and the lists long enough.
-fn is_enough(n: u16, lit: &[u8], rows: Rows, work: &[u64], marks: &[u8], forms: &[u64]) -> bool
-    ensures { result ≡ enough? n (length lit.now) rows.first.0 rows.count (length work.now) (length marks.now) (length forms.now) }
+fn is_enough(half: &HalfRows<'_>, lists: &WorkingLists<'_>) -> bool
+    ensures { result ≡ enough? half.now.n (rows_of half.now) (working lists.now) }
 {
-    let size = n as usize;
-    let first = rows.first;
-    let last = first.0 as usize + rows.count as usize;
-    let small = (n <= 1024) & (rows.count <= 512) & (last <= 1024);
-    let long = small & (10240 <= work.len()) & (last <= lit.len());
-    long & (size <= marks.len()) & (4 * size <= forms.len())
+    let size = half.n as usize;
+    half.is_sized()
+        & (10240 <= lists.work.len())
+        & (size <= lists.marks.len())
+        & (4 * size <= lists.forms.len())
 }
 
 // A try where sizes are in range and lists long enough: the start, then the turns.
-fn tried(
-    n: u16,
-    ends: &[u16],
-    lit: &[u8],
-    rows: Rows,
-    limit: u16,
-    fixed: u16,
-    work: &mut [u64],
-    marks: &mut [u8],
-    forms: &mut [u64],
-) -> TryAnswer
-    requires { (n ≤ 1024) × (n ≤ length marks.old) × (4 * n ≤ length forms.old) × (10240 ≤ length work.old) × (rows.count ≤ 512) × (rows.first.0 + rows.count ≤ length lit.now) × (rows.first.0 + rows.count ≤ 1024) }
-    ensures { Tried n ends.now lit.now rows.first.0 rows.count limit fixed (record { marks = marks.entry.now; forms = forms.old; work = work.old }) (record { marks = marks.exit.now; forms = forms.new; work = work.new }) result }
+fn tried(half: &HalfRows<'_>, limit: u16, fixed: u16, lists: &mut WorkingLists<'_>) -> TryAnswer
+    requires { Room half.now.n (rows_of half.now) (working lists.old) }
+    ensures same { SameLists lists.old lists.new }
+    ensures tried { Tried half.now.n (rows_of half.now) limit fixed (working lists.old) (working lists.new) result }
 {
-    let size = n as usize;
-    lists::clear_words(forms, 0, 4 * size);
-    start::clear_rows(rows.count, work);
-    let Opened::Open(number) = start::open_marked(size, ends, lit, rows, work, marks) else {
+    let rows = half.rows;
+    lists::clear(lists.forms, 0, 4 * (half.n as usize));
+    start::clear_rows(rows.count, lists.work);
+    let Some(number) = start::open_marked(half, lists) else {
         return TryAnswer::Unknown;
     };
-    kept::find_dangling(rows.count, work);
-    if closing::lit_closed(lit, rows, work) {
+    kept::find_dangling(rows.count, lists.work);
+    if start::is_lit_closed(half, lists) {
         return TryAnswer::Unknown;
     }
-    peels::run(n, ends, lit, rows, limit, fixed, number, work, marks, forms)
+    peels::run(half, limit, fixed, number, lists)
 }
 
 // The half from the marks of its start, of which `fixed` are fixed qubits, up to the first turn that would be a guess. Marks and forms are left as the turns left them, and the
 // work list with what is kept of the rows; where nothing is known the marks are those of the start again, and forms and work list may hold anything.
 pub fn try_turns(
-    n: u16,
-    ends: &[u16],
-    lit: &[u8],
-    rows: Rows,
+    half: &HalfRows<'_>,
     limit: u16,
     fixed: u16,
-    work: &mut [u64],
-    marks: &mut [u8],
-    forms: &mut [u64],
+    lists: &mut WorkingLists<'_>,
 ) -> TryAnswer
-    ensures { Tries n ends.now lit.now rows.first.0 rows.count limit fixed (record { marks = marks.entry.now; forms = forms.old; work = work.old }) (record { marks = marks.exit.now; forms = forms.new; work = work.new }) result }
+    ensures same { SameLists lists.old lists.new }
+    ensures tries { Tries half.now.n (rows_of half.now) limit fixed (working lists.old) (working lists.new) result }
 {
-    if !is_enough(n, lit, rows, work, marks, forms) {
+    if !is_enough(half, lists) {
         return TryAnswer::Unknown;
     }
-    let told = tried(n, ends, lit, rows, limit, fixed, work, marks, forms);
-    match told {
-        TryAnswer::Unknown => {
-            start::reopen(n as usize, marks);
-            TryAnswer::Unknown
-        }
-        TryAnswer::Left(made) => TryAnswer::Left(made),
-        TryAnswer::Over(report) => TryAnswer::Over(report),
+    let told = tried(half, limit, fixed, lists);
+    if let TryAnswer::Unknown = told {
+        start::reopen(half.n as usize, lists.marks);
     }
+    told
 }

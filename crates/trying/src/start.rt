@@ -1,11 +1,17 @@
 // The start of a try: each qubit that is marked open is open; and its marks again, for a try that tells nothing.
-ghost use Rattle.std.specs.Prelude.{◌≡◌, ◌≤◌, length, get_or};
+ghost use Rattle.std.specs.Prelude.{◌≤◌, length, get_or};
 ghost use Rattle.lists.specs.Filled.{Filled};
+ghost use Rattle.closing.specs.Closing.{LitClosed};
+ghost use Rattle.scans.specs.Half.{rows_of};
+ghost use Rattle.turns.specs.Lent.{working, SameLists, Room};
 ghost use Rattle.trying.specs.Start.{RowsCleared, MarkedOpened};
 ghost use Rattle.trying.specs.Turns.{reopened};
 
-use crate::{Opened, entries};
-use code::{Qubit, Rows};
+use crate::entries;
+use code::Qubit;
+use machine::{OPEN, PEELED};
+use scans::HalfRows;
+use turns::WorkingLists;
 
 // The numbers of so many rows while no qubit is open.
 pub fn clear_rows(count: u16, work: &mut [u64])
@@ -13,47 +19,35 @@ pub fn clear_rows(count: u16, work: &mut [u64])
     ensures { RowsCleared count work.old work.new }
 {
     let number = count as usize;
-    lists::clear_words(work, kept::NUMBERS, kept::NUMBERS + number);
-    lists::clear_words(work, entries::SUMS, entries::SUMS + number);
-    lists::clear_words(work, entries::PARITIES, entries::PARITIES + number);
+    lists::clear(work, kept::NUMBERS, kept::NUMBERS + number);
+    lists::clear(work, entries::SUMS, entries::SUMS + number);
+    lists::clear(work, entries::PARITIES, entries::PARITIES + number);
 }
 
-// The rows on each qubit that is marked open have it. Of any other qubit only the mark is looked at.
-pub fn open_marked(
-    n: usize,
-    ends: &[u16],
-    lit: &[u8],
-    rows: Rows,
-    work: &mut [u64],
-    marks: &[u8],
-) -> Opened
-    requires { (n ≤ 1024) × (n ≤ length marks.now) × (10240 ≤ length work.old) × (rows.count ≤ 512) }
-    ensures { MarkedOpened n ends.now lit.now rows.first.0 rows.count marks.now work.old work.new result }
+// The rows on each qubit that is marked open have it; how many qubits are, or nothing where not all rows on one are listed. Of any other qubit only the mark
+// is looked at.
+pub fn open_marked(half: &HalfRows<'_>, lists: &mut WorkingLists<'_>) -> Option<u16>
+    requires { Room half.now.n (rows_of half.now) (working lists.old) }
+    ensures same { SameLists lists.old lists.new }
+    ensures opened { MarkedOpened half.now.n (rows_of half.now) (working lists.old) (working lists.new) result }
 {
     let mut total: u16 = 0;
-    let mut at: usize = 0;
-    while at < n {
-        if marks[at] == 4 {
-            let q = Qubit(at as u16);
-            if !entries::is_listed(ends, q) {
-                return Opened::Unlisted;
-            }
-            entries::open_rows(q, entries::rows_on(ends, q), lit, rows, work);
+    for at in 0..half.n {
+        if lists.marks[at as usize] == OPEN {
+            let q = Qubit(at);
+            let on = incidence::rows_on(half.code.ends, q)?;
+            entries::open_rows(q, on, half.lit, half.rows, lists.work);
             total += 1;
         }
-        at += 1;
     }
-    Opened::Open(total)
+    Some(total)
 }
 
-// A mark, that of a peeled qubit open again.
-fn open_again(m: u8) -> u8
-    ensures { result ≡ reopened m }
+// Whether a lit row has no open qubit.
+pub fn is_lit_closed(half: &HalfRows<'_>, lists: &WorkingLists<'_>) -> bool
+    ensures { LitClosed half.now.lit.now half.now.rows.first.0 half.now.rows.count lists.now.work.now result }
 {
-    if m == 2 {
-        return 4;
-    }
-    m
+    closing::lit_closed(half, lists.work)
 }
 
 // The first n marks, those of peeled qubits open again.
@@ -61,9 +55,9 @@ pub fn reopen(n: usize, marks: &mut [u8])
     requires { n ≤ length marks.old }
     ensures { Filled (λ q. reopened (get_or marks.old q 0)) n marks.old marks.new }
 {
-    let mut q: usize = 0;
-    while q < n {
-        marks[q] = open_again(marks[q]);
-        q += 1;
+    for q in 0..n {
+        if marks[q] == PEELED {
+            marks[q] = OPEN;
+        }
     }
 }

@@ -14,7 +14,8 @@ use Rattle.binary.specs.Words.{bit}
 use Rattle.binary.proofs.Bits.{bit as cases, never, and_out, not_out}
 use Rattle.binary.proofs.WordBits.{order, bit_zero}
 use Rattle.lists.specs.Cleared.{Cleared}
-use Rattle.machine.specs.declared.Word.TheVariants.{None}
+use Rattle.std.specs.Prelude.{None, Some}
+use Rattle.machine.specs.declared.Word.{Word}
 use Rattle.machine.specs.declared.HalfReport.{HalfReport}
 use Rattle.machine.specs.Machine.{Form, End, on, is_open, blank, stage, freest, run}
 use Rattle.machine.specs.Report.{marked}
@@ -23,11 +24,12 @@ use Rattle.machine.proofs.FormWords.{form_in, form_out}
 use Rattle.scans.specs.Rows.{RowLists, row_checks}
 use Rattle.scans.specs.Scans.{count_marks}
 use Rattle.closing.specs.Closing.{LitClosed}
-use Rattle.turns.specs.declared.RunAnswer.TheVariants.{Refused, Over}
 use Rattle.turns.specs.declared.Ended.{Ended}
+use Rattle.scans.specs.Half.{sized?}
+use Rattle.turns.specs.Lent.{Room}
 use Rattle.turns.specs.Lists.{state_of}
 use Rattle.turns.specs.Turns.{Working, Stays, Ready, EndedAs, run_from, RunEnds}
-use Rattle.turns.specs.Runs.{stage_in, Begins, end_of, Midway, rest_of, TurnedHalf, report_by, RanHalf, enough?, enough_in?, Answers}
+use Rattle.turns.specs.Runs.{stage_in, Begins, end_of, Midway, rest_of, TurnedHalf, report_by, Ran, enough?, Answers}
 use Rattle.turns.proofs.Stays.{stays_same, stays_on}
 use Rattle.turns.proofs.Running.{run_failed}
 
@@ -42,8 +44,8 @@ blank_forms n forms forms' f =
     within q k l (inl h) = form_in forms' q k h ∙ ap (λ (x : ℕ). bit x (k % 64)) (f.inside (4 * q + k / 64) zero-le (omega arith)) ∙ bit_zero (k % 64)
     within q k l (inr h) = form_out forms' q k h
 
-module _ (n : ℕ) (c : RowLists) (budget limit : ℕ) (old : Working) (forms₁ : List ℕ) (told : Bool) (words : 10240 ≤ length old.work) (few : c.count ≤ 512)
-    (lit : c.first + c.count ≤ length c.lit) (cleared : Cleared 0 (4 * n) old.forms forms₁) (tells : LitClosed c.lit c.first c.count old.work told) where
+module _ (n : ℕ) (c : RowLists) (budget limit : ℕ) (old : Working) (forms₁ : List ℕ) (told : Bool) (room : Room n c old)
+    (cleared : Cleared 0 (4 * n) old.forms forms₁) (tells : LitClosed c.lit c.first c.count old.work told) where
   abbrev o : Qubits
   o = is_open (view n old.marks)
 
@@ -54,17 +56,17 @@ module _ (n : ℕ) (c : RowLists) (budget limit : ℕ) (old : Working) (forms₁
   stays_mid = record { marks_long = refl; forms_long = cleared.long; work_long = refl; marks_rest = λ q i. refl; forms_rest = λ q l. cleared.outside q (inr l) }
 
   begun : Begins n c old → stage_in n c old.marks ≡ stage (view n old.marks) 0 (cond told none (some blank))
-  begun b = ap (stage (view n old.marks) 0) (tells.taken lit (omega arith) few c.flat c.ends o b.kept)
+  begun b = ap (stage (view n old.marks) 0) (tells.taken room.read (let w = room.work in omega arith) room.few c.flat c.ends o b.kept)
 
   abbrev Turned : Working → Ended → Type 0
   Turned new r = TurnedHalf n c (Begins n c old) (end_of n c budget limit old) old new r
 
-  pub half_failed : told ≡ true → Turned now (record { word = None; turns = 0; live = 0 })
+  pub half_failed : told ≡ true → Turned now (record { word = Word.None; turns = 0; live = 0 })
   half_failed e =
       record {
         stays = stays_mid;
         ends = λ b.
-            subst (EndedAs n c now (record { word = None; turns = 0; live = 0 }))
+            subst (EndedAs n c now (record { word = Word.None; turns = 0; live = 0 }))
             (sym (run_failed (row_checks c) n (freest (row_checks c) n) budget limit (suc limit) (record { mark = view n old.marks; forms = blank; turns = 0 }))
             ∙ ap (run (row_checks c) n (freest (row_checks c) n) budget limit (suc limit)) (sym (begun b ∙ ap (λ (x : Bool). stage (view n old.marks) 0 (cond x none (some blank))) e)))
             (record { word = refl; turns = refl; live = refl; marks = refl; forms = λ j. never refl j; kept = λ j. never refl j });
@@ -111,64 +113,58 @@ half_rest n c budget limit made old new r v =
 pub counted_as : (n : ℕ) (marks : List ℕ) (m x : ℕ) → n ≤ length marks → x ≡ count_marks n marks m → x ≡ marked n (view n marks) m
 counted_as n marks m x h e = e ∙ rw (le-leb n (length marks) h)
 
-pub report_is : (n : ℕ) (e : Ended) (marks : List ℕ) (x y : ℕ) → n ≤ length marks → x ≡ count_marks n marks 1 → y ≡ count_marks n marks 3
-    → ◌≡◌ {A = HalfReport} (record { word = e.word; fixed = x; turns = e.turns; guesses = y; live = e.live }) (report_by n e marks)
-report_is n e marks x y h a b =
-    λ i. record { word = e.word; fixed = counted_as n marks 1 x h a i; turns = e.turns; guesses = counted_as n marks 3 y h b i; live = e.live }
-
-pub ran_half : (n : ℕ) (c : RowLists) (asked : Type 0) (end : End) (old new : Working) (e : Ended) (r : HalfReport) → TurnedHalf n c asked end old new e
-    → r ≡ report_by n e new.marks → RanHalf n c asked end old new r
-ran_half n c asked end old new e r v told =
+ran_as : (n : ℕ) (c : RowLists) (end : End) (new : Working) (e : Ended) (r : HalfReport) → EndedAs n c new e end → r ≡ report_by n e new.marks → Ran n c new r end
+ran_as n c end new e r w told =
     record {
-      stays = v.stays;
-      ran = λ b. let w = v.ends b in
-          record {
-            report = told ∙ λ i. record { word = w.word i; fixed = marked n (w.marks i) 1; turns = w.turns i; guesses = marked n (w.marks i) 3; live = w.live i };
-            marks = w.marks;
-            forms = w.forms;
-            kept = w.kept;
-          };
+      report = told ∙ λ i. record { word = w.word i; fixed = marked n (w.marks i) 1; turns = w.turns i; guesses = marked n (w.marks i) 3; live = w.live i };
+      marks = w.marks;
+      forms = w.forms;
+      kept = w.kept;
     }
 
 ----------------------------------------------------------------------
 -- Sizes in range and lists long enough, and the promise
 
--- What the functions below ask.
-pub record Enough (n : ℕ) (c : RowLists) (l : Working) : Type 0 where
-  pub size : n ≤ 1024
-  pub marks : n ≤ length l.marks
-  pub forms : 4 * n ≤ length l.forms
-  pub work : 10240 ≤ length l.work
-  pub few : c.count ≤ 512
-  pub lit : c.first + c.count ≤ length c.lit
-  pub last : c.first + c.count ≤ 1024
-
-pub enough_out : (n : ℕ) (c : RowLists) (l : Working) → enough_in? n c l ≡ true → Enough n c l
-unfolding enough?
+pub enough_out : (n : ℕ) (c : RowLists) (l : Working) → enough? n c l ≡ true → Room n c l
+unfolding enough? sized?
 enough_out n c l t =
     let b = and_out _ (leb (4 * n) (length l.forms)) t in
     let d = and_out _ (leb n (length l.marks)) b.0 in
-    let e = and_out _ (leb (c.first + c.count) (length c.lit)) d.0 in
-    let f = and_out _ (leb 10240 (length l.work)) e.0 in
-    let h = and_out _ (leb c.first 512) f.0 in
+    let e = and_out _ (leb 10240 (length l.work)) d.0 in
+    let f = and_out _ (leb c.first 512) e.0 in
+    let g = and_out _ (leb (c.first + c.count) (length c.lit)) f.0 in
+    let h = and_out _ (leb (c.first + c.count) 1024) g.0 in
     let i = and_out (leb n 1024) (leb c.count 512) h.0 in
-    let first = leb-true c.first 512 h.1 in
-    let count = leb-true c.count 512 i.1 in
     record {
-      size = leb-true n 1024 i.0;
-      marks = leb-true n (length l.marks) d.1;
-      forms = leb-true (4 * n) (length l.forms) b.1;
-      work = leb-true 10240 (length l.work) f.1;
-      few = count;
-      lit = leb-true (c.first + c.count) (length c.lit) e.1;
-      last = omega arith;
+      size = leb-true _ _ i.0;
+      marks = leb-true _ _ d.1;
+      forms = leb-true _ _ b.1;
+      work = leb-true _ _ e.1;
+      few = leb-true _ _ i.1;
+      read = leb-true _ _ g.1;
+      last = leb-true _ _ h.1;
     }
+
+-- Of sizes in range and lists long enough.
+pub enough_in : (n : ℕ) (c : RowLists) (l : Working) → Room n c l → c.first ≤ 512 → enough? n c l ≡ true
+unfolding enough? sized?
+enough_in n c l r first =
+    rw (
+      le-leb n 1024 r.size,
+      le-leb c.count 512 r.few,
+      le-leb (c.first + c.count) 1024 r.last,
+      le-leb (c.first + c.count) (length c.lit) r.read,
+      le-leb c.first 512 first,
+      le-leb 10240 (length l.work) r.work,
+      le-leb n (length l.marks) r.marks,
+      le-leb (4 * n) (length l.forms) r.forms,
+    )
 
 pub enough_told : (enough told : Bool) → told ≡ enough → not told ≡ false → enough ≡ true
 enough_told enough told tells e = cases enough (λ y. y) (λ y. never (ap not (tells ∙ y)) e)
 
 module _ (n : ℕ) (c : RowLists) (enough : Bool) (asked : Type 0) (end : End) (old : Working) (told : Bool) (tells : told ≡ enough) where
-  pub answers_refused : not told ≡ true → Answers n c enough asked end old old Refused
+  pub answers_refused : not told ≡ true → Answers n c enough asked end old old None
   answers_refused e =
       record {
         stays = stays_same n old;
@@ -176,5 +172,7 @@ module _ (n : ℕ) (c : RowLists) (enough : Bool) (asked : Type 0) (end : End) (
         over = λ i. never i (sym tells ∙ not_out told e);
       }
 
-  pub answers_over : not told ≡ false → (new : Working) (r : HalfReport) → RanHalf n c asked end old new r → Answers n c enough asked end old new (Over r)
-  answers_over e new r v = record { stays = v.stays; refused = λ i. never (enough_told enough told tells e) i; over = λ i. (r, refl, v.ran) }
+  pub answers_over : not told ≡ false → (new : Working) (e : Ended) (r : HalfReport) → TurnedHalf n c asked end old new e → r ≡ report_by n e new.marks
+      → Answers n c enough asked end old new (Some r)
+  answers_over f new e r v is =
+      record { stays = v.stays; refused = λ i. never (enough_told enough told tells f) i; over = λ i. (r, refl, λ b. ran_as n c end new e r (v.ends b) is) }

@@ -2,8 +2,9 @@
 use mathlib.Core.Path.{◌≡◌, refl, sym, ap, ◌∙◌, subst}
 use mathlib.Core.Bool.{Bool, true, false, not}
 use mathlib.Core.Option.{Option, none, some}
+use Rattle.std.specs.Prelude.{Option as Opt, Some, None}
 use mathlib.Core.List.{List}
-use Prim.Native.Nat.{ℕ, zero, suc, ◌+◌, ◌≤◌, ◌<◌}
+use Prim.Native.Nat.{ℕ, ◌+◌, ◌≤◌, ◌<◌}
 use native.Mathlib.Omega.{arith}
 use lib.Dec.{eqb}
 use lib.ListN.{length, get_or}
@@ -11,14 +12,8 @@ use Rattle.binary.specs.Bits.{below}
 use Rattle.binary.specs.Meaning.{Qubits}
 use Rattle.binary.proofs.Bits.{bit, never, eq_eqb, eqb_differ, below_in, not_in}
 use Rattle.code.specs.declared.Qubit.{Qubit}
-use Rattle.guessing.specs.declared.Choice.{Choice}
-use Rattle.guessing.specs.declared.Choice.TheVariants.{NoQubit, Named}
-use Rattle.forms.specs.declared.Taken.{Taken}
+use Rattle.forms.specs.Forms.{Taken}
 use Rattle.turns.specs.declared.Move.{Move}
-use Rattle.turns.specs.declared.Move.TheVariants.{Spent, Made}
-use Rattle.turns.specs.declared.Ended.{Ended}
-use Rattle.machine.specs.declared.Word.TheVariants.{Certain, Unsure}
-use Rattle.machine.specs.Words.{finished}
 use Rattle.machine.specs.Machine.{is_open, dangling, best}
 use Rattle.machine.specs.Lists.{view}
 use Rattle.machine.proofs.Guessing.{best_rule}
@@ -28,7 +23,7 @@ use Rattle.scans.proofs.Scanning.{open_below_lem}
 use Rattle.kept.specs.Kept.{dangles?, Lowest}
 use Rattle.kept.proofs.Same.{kept_same, rows_same}
 use Rattle.kept.proofs.Dangling.{dangling_none, found_inside, dangling_found}
-use Rattle.guessing.specs.Guessing.{Weighs, lighter, choice_of, heaviest}
+use Rattle.guessing.specs.Guessing.{WeighRoom, Weighs, lighter, choice_of, heaviest}
 use Rattle.guessing.proofs.Adding.{alone_same}
 use Rattle.guessing.proofs.Room.{does_weigh, named_as}
 use Rattle.guessing.proofs.Choices.{weighed_rule}
@@ -39,46 +34,45 @@ use Rattle.turns.proofs.Stays.{stays_same, stays_on}
 -- The qubit that the rule names
 
 -- The qubit that the rule names by the weights is open.
-choice_open : (n : ℕ) (work marks : List ℕ) (x : Choice) (p : Qubit) → x ≡ choice_of (best (lighter work) n (is_open (view n marks))) → x ≡ Named p
+choice_open : (n : ℕ) (work marks : List ℕ) (x : Opt Qubit) (p : Qubit) → x ≡ choice_of (best (lighter work) n (is_open (view n marks))) → x ≡ Some p
     → is_open (view n marks) p.0 ≡ true
 choice_open n work marks x p a b = look (best (lighter work) n (is_open (view n marks))) refl
   where
     look : (y : Option ℕ) → best (lighter work) n (is_open (view n marks)) ≡ y → is_open (view n marks) p.0 ≡ true
-    look none i = let z : x ≡ NoQubit = a ∙ ap choice_of i in let w : ◌≡◌ {A = Bool} true false = cc in never refl w
+    look none i = let z : x ≡ None = a ∙ ap choice_of i in let w : ◌≡◌ {A = Bool} true false = cc in never refl w
     look (some q) i =
-        let z : x ≡ Named (record { 0 = q }) = a ∙ ap choice_of i in
+        let z : x ≡ Some (record { 0 = q }) = a ∙ ap choice_of i in
         let w : p ≡ record { 0 = q } = cc in
         (best_rule (λ o. lighter work) n).names_open (is_open (view n marks)) p.0 (i ∙ ap some (sym (ap (λ (k : Qubit). k.0) w)))
 
-pub choice_named : (n : ℕ) (marks work : List ℕ) (x : Choice) (p : Qubit) → x ≡ heaviest n marks work → n ≤ 1024 → n ≤ length marks → 10240 ≤ length work → x ≡ Named p
+pub choice_named : (n : ℕ) (marks work : List ℕ) (x : Opt Qubit) (p : Qubit) → x ≡ heaviest n marks work → n ≤ 1024 → n ≤ length marks → 10240 ≤ length work → x ≡ Some p
     → is_open (view n marks) p.0 ≡ true
 choice_named n marks work x p a size long words b = choice_open n work marks x p (named_as n marks work x size long words a) b
 
 -- Where some qubit is open the rule names one.
-choice_some {ℓ} : {A : Type ℓ} (n : ℕ) (work marks : List ℕ) (x : Choice) → x ≡ choice_of (best (lighter work) n (is_open (view n marks))) → x ≡ NoQubit
+choice_some {ℓ} : {A : Type ℓ} (n : ℕ) (work marks : List ℕ) (x : Opt Qubit) → x ≡ choice_of (best (lighter work) n (is_open (view n marks))) → x ≡ None
     → below n (λ q. not (is_open (view n marks) q)) ≡ false → A
 choice_some n work marks x a b some_open_lem =
     never (below_in n _ (λ q l. not_in ((best_rule (λ o. lighter work) n).names_one (is_open (view n marks)) (look (best (lighter work) n (is_open (view n marks))) refl) q l))) some_open_lem
   where
     look : (y : Option ℕ) → best (lighter work) n (is_open (view n marks)) ≡ y → best (lighter work) n (is_open (view n marks)) ≡ none
     look none i = i
-    look (some q) i = let z : x ≡ Named (record { 0 = q }) = a ∙ ap choice_of i in let w : ◌≡◌ {A = Bool} true false = cc in never refl w
+    look (some q) i = let z : x ≡ Some (record { 0 = q }) = a ∙ ap choice_of i in let w : ◌≡◌ {A = Bool} true false = cc in never refl w
 
 ----------------------------------------------------------------------
 -- The weights, counted unless they are kept
 
-module _ (n : ℕ) (flat ends : List ℕ) (first count : ℕ) (weighed : Bool) (work : List ℕ) where
-  pub once_kept : not weighed ≡ false → WeighedOnce n flat ends first count weighed work work
+module _ (n : ℕ) (r : RowLists) (weighed : Bool) (work : List ℕ) where
+  pub once_kept : not weighed ≡ false → WeighedOnce n r weighed work work
   once_kept e = record { alone = alone_same n work; weights = λ lit good o inside k w. w (bit weighed (λ t. t) (λ f. never (not_in f) e)) }
 
-  pub once_counted : n ≤ 1024 → count ≤ 512 → first + count ≤ 1024 → 10240 ≤ length work → (work' : List ℕ) → Weighs n flat ends first count work work'
-      → WeighedOnce n flat ends first count weighed work work'
-  once_counted a b d e work' v =
-      let w = v.weighs (does_weigh n first count work a b d e) in record { alone = w.alone; weights = λ lit good o inside k u. w.weighed lit good o inside k }
+  pub once_counted : WeighRoom n r work → (work' : List ℕ) → Weighs n r work work' → WeighedOnce n r weighed work work'
+  once_counted room work' v =
+      let w = v.weighs (does_weigh n r work room) in record { alone = w.alone; weights = λ lit good o inside k u. w.weighed lit good o inside k }
 
 -- A list that keeps the same of the rows, with the weights.
 module _ (n : ℕ) (c : RowLists) (live : ℕ) (weighed : Bool) (old : Working) (work' : List ℕ) (size : n ≤ 1024) (few : c.count ≤ 512)
-    (once : WeighedOnce n c.flat c.ends c.first c.count weighed old.work work') where
+    (once : WeighedOnce n c weighed old.work work') where
   abbrev pub mid : Working
   mid = record { marks = old.marks; forms = old.forms; work = work' }
 
@@ -98,11 +92,11 @@ module _ (n : ℕ) (c : RowLists) (live : ℕ) (weighed : Bool) (old : Working) 
       unguessed = λ e. never refl e;
     }
 
-  module _ (x : Choice) (a : x ≡ choice_of (best (lighter work') n (is_open (view n old.marks)))) where
-    pub guessed_none : x ≡ NoQubit → Guessed n c live weighed old mid Spent
+  module _ (x : Opt Qubit) (a : x ≡ choice_of (best (lighter work') n (is_open (view n old.marks)))) where
+    pub guessed_none : x ≡ None → Guessed n c live weighed old mid None
     guessed_none b = record { stays = stays_mid; one = (refl, refl); guesses = λ good ready some_open_lem none_dangles. choice_some n work' old.marks x a b some_open_lem }
 
-    pub guessed_made : (p : Qubit) → x ≡ Named p → (new : Working) (t : Taken) → Turned n c live true (guess_by n c p.0) mid new t → Guessed n c live weighed old new (Made t true)
+    pub guessed_made : (p : Qubit) → x ≡ Some p → (new : Working) (t : Taken) → Turned n c live true (guess_by n c p.0) mid new t → Guessed n c live weighed old new (Some (record { taken = t; weighed = true }))
     unfolding turn_by guess_by
     guessed_made p b new t v =
         record {
@@ -116,9 +110,9 @@ module _ (n : ℕ) (c : RowLists) (live : ℕ) (weighed : Bool) (old : Working) 
         }
       where
         named : (y : Option ℕ) → best (lighter work') n (is_open (view n old.marks)) ≡ y → best (lighter work') n (is_open (view n old.marks)) ≡ some p.0
-        named none i = let z : x ≡ NoQubit = a ∙ ap choice_of i in let w : ◌≡◌ {A = Bool} true false = cc in never refl w
+        named none i = let z : x ≡ None = a ∙ ap choice_of i in let w : ◌≡◌ {A = Bool} true false = cc in never refl w
         named (some q) i =
-            let z : x ≡ Named (record { 0 = q }) = a ∙ ap choice_of i in
+            let z : x ≡ Some (record { 0 = q }) = a ∙ ap choice_of i in
             let w : p ≡ record { 0 = q } = cc in i ∙ ap some (sym (ap (λ (k : Qubit). k.0) w))
 
 ----------------------------------------------------------------------
@@ -136,7 +130,7 @@ module _ (n : ℕ) (c : RowLists) (budget live : ℕ) (weighed : Bool) (old new 
     at = subst (λ (x : List ℕ). OpenFrom now_open x 0 i) is first
 
     -- A dangling row has an open qubit.
-    pub moved_shut : length row ≤ i → Moved n c budget live weighed old old Spent
+    pub moved_shut : length row ≤ i → Moved n c budget live weighed old old None
     moved_shut l =
         record {
           stays = stays_same n old;
@@ -146,7 +140,7 @@ module _ (n : ℕ) (c : RowLists) (budget live : ℕ) (weighed : Bool) (old new 
               let k = known ready in let m = found_inside now_open c r h (k.0 h) k.1 i at in let e = ap length is in absurd (omega arith);
         }
 
-    pub moved_peel : (p : ℕ) → p ≡ get_or row i 0 → (t : Taken) → Turned n c live weighed (peel_by n c p (c.first + r)) old new t → Moved n c budget live weighed old new (Made t weighed)
+    pub moved_peel : (p : ℕ) → p ≡ get_or row i 0 → (t : Taken) → Turned n c live weighed (peel_by n c p (c.first + r)) old new t → Moved n c budget live weighed old new (Some (record { taken = t; weighed = weighed }))
     unfolding turn_by peel_by
     moved_peel p e t v =
         record {
@@ -164,7 +158,7 @@ module _ (n : ℕ) (c : RowLists) (budget live : ℕ) (weighed : Bool) (old new 
     no_row : Ready n c live weighed old → dangling now_open (row_checks c) ≡ none
     no_row ready = dangling_none now_open c (λ j l. (known ready).1 j (omega arith))
 
-    pub moved_spent : budget ≤ live → Moved n c budget live weighed old old Spent
+    pub moved_spent : budget ≤ live → Moved n c budget live weighed old old None
     moved_spent l =
         record {
           stays = stays_same n old;
@@ -173,21 +167,9 @@ module _ (n : ℕ) (c : RowLists) (budget live : ℕ) (weighed : Bool) (old new 
           moves = λ good ready some_open_lem less. let e : live ≡ budget = omega arith in (refl, rw (no_row ready) (subst (λ (k : ℕ). eqb live k ≡ true) e (eq_eqb live)));
         }
 
-    pub moved_guess : live < budget → (m : Move) → Guessed n c live weighed old new m → Moved n c budget live weighed old new m
+    pub moved_guess : live < budget → (m : Opt Move) → Guessed n c live weighed old new m → Moved n c budget live weighed old new m
     moved_guess l m v = record { stays = v.stays; one = v.one; by_total = λ z s. absurd (omega arith); moves = λ good ready some_open_lem less. go good ready some_open_lem m v }
       where
-        go : GoodRows n c → Ready n c live weighed old → below n (λ q. not (now_open q)) ≡ false → (m : Move) → Guessed n c live weighed old new m → MovedBy n c budget live old new m
-        go good ready some_open_lem Spent v = absurd (v.guesses good ready some_open_lem (no_row ready))
-        go good ready some_open_lem (Made t after) v = (rw (no_row ready) (eqb_differ live budget (λ e. absurd (omega arith))), v.guesses good ready some_open_lem (no_row ready))
-
-----------------------------------------------------------------------
--- The word of a finished half
-
-pub finished_zero : (turns live : ℕ) → live ≡ 0
-    → ◌≡◌ {A = Ended} (record { word = Certain; turns = turns; live = live }) (record { word = finished live; turns = turns; live = live })
-finished_zero turns live e = rw e
-
-pub finished_some : (turns live : ℕ) → (live ≡ 0 → ⊥)
-    → ◌≡◌ {A = Ended} (record { word = Unsure; turns = turns; live = live }) (record { word = finished live; turns = turns; live = live })
-finished_some turns zero h = absurd (h refl)
-finished_some turns (suc live) h = refl
+        go : GoodRows n c → Ready n c live weighed old → below n (λ q. not (now_open q)) ≡ false → (m : Opt Move) → Guessed n c live weighed old new m → MovedBy n c budget live old new m
+        go good ready some_open_lem None v = absurd (v.guesses good ready some_open_lem (no_row ready))
+        go good ready some_open_lem (Some t) v = (rw (no_row ready) (eqb_differ live budget (λ e. absurd (omega arith))), v.guesses good ready some_open_lem (no_row ready))

@@ -2,6 +2,7 @@
 use mathlib.Core.Path.{◌≡◌, refl, sym, ap, ap₂, ◌∙◌, subst}
 use mathlib.Core.Bool.{Bool, true, false}
 use mathlib.Core.Option.{Option, none, some}
+use Rattle.std.specs.Prelude.{Option as Opt, Some, None}
 use mathlib.Core.List.{List}
 use Prim.Native.Nat.{ℕ, zero, suc, ◌+◌, ◌-◌, ◌≤◌, ◌<◌}
 use native.Mathlib.Omega.{arith}
@@ -10,11 +11,9 @@ use lib.Dec.{eqb}
 use Rattle.binary.specs.Meaning.{Qubits, Check}
 use Rattle.binary.proofs.Bits.{bit, never, eq_eqb, eqb_differ, none_counted}
 use Rattle.machine.specs.declared.Word.{Word}
-use Rattle.machine.specs.declared.Word.TheVariants.{None, Stopped}
-use Rattle.forms.specs.declared.Taken.{Taken}
-use Rattle.forms.specs.declared.Taken.TheVariants.{Failed, Live}
+use Rattle.machine.specs.declared.Word.TheVariants.{Stopped}
+use Rattle.forms.specs.Forms.{Taken}
 use Rattle.turns.specs.declared.Move.{Move}
-use Rattle.turns.specs.declared.Move.TheVariants.{Spent, Made}
 use Rattle.turns.specs.declared.Ended.{Ended}
 use Rattle.machine.specs.Words.{finished}
 use Rattle.machine.specs.Machine.{State, Stage, on, failed, End, is_open, none_open, before, freest, turn, run}
@@ -43,7 +42,7 @@ module _ (checks : List Check) (n : ℕ) (choose : Qubits → Option ℕ) (budge
   run_goes e = rw e
 
 pub run_failed : (checks : List Check) (n : ℕ) (choose : Qubits → Option ℕ) (budget limit m : ℕ) (st : State)
-    → run checks n choose budget limit m (failed st) ≡ record { word = None; state = st }
+    → run checks n choose budget limit m (failed st) ≡ record { word = Word.None; state = st }
 unfolding run
 run_failed checks n choose budget limit zero st = refl
 run_failed checks n choose budget limit (suc m) st = refl
@@ -111,28 +110,34 @@ module _ (n : ℕ) (c : RowLists) (budget limit made : ℕ) (old : Working) (beg
                 let v = g.so good ready few in ends v Stopped (rw (open_now v, subst (λ (k : ℕ). eqb turns k ≡ true) e (eq_eqb turns)));
           }
 
-      module _ (early : turns ≡ limit → ⊥) (l' : Working) (m : Move) (moved : Moved n c budget live weighed l l' m) where
-        moves : GoodRows n c → Running l live weighed turns left → (m' : Move) → m ≡ m' → MovedBy n c budget live l l' m'
+      module _ (early : turns ≡ limit → ⊥) (l' : Working) (m : Opt Move) (moved : Moved n c budget live weighed l l' m) where
+        moves : GoodRows n c → Running l live weighed turns left → (m' : Opt Move) → m ≡ m' → MovedBy n c budget live l l' m'
         moves good v m' e = subst (MovedBy n c budget live l l') e (moved.moves good v.ready (open_now v) v.few)
 
-        pub goes_spent : m ≡ Spent → RunEnds n c budget limit made begun old l' (record { word = Word.Spent; turns = turns; live = live })
+        pub goes_spent : m ≡ None → RunEnds n c budget limit made begun old l' (record { word = Word.Spent; turns = turns; live = live })
         goes_spent i =
             record {
               stays = stays_on n old l l' g.stays moved.stays;
               ends = λ good ready few.
                   let v = g.so good ready few in
-                  let z = moves good v Spent i in
+                  let z = moves good v None i in
                   subst (λ (x : Working). EndedAs n c x (record { word = Word.Spent; turns = turns; live = live }) whole) (sym z.0)
                   (ends v Word.Spent (rw (open_now v, eqb_differ turns limit early, z.1)));
             }
 
-        module _ (t : Taken) (keeps : Bool) (is_made : m ≡ Made t keeps) where
+        module _ (x : Move) (is_made : m ≡ Some x) where
+          abbrev t : Taken
+          t = x.taken
+
+          abbrev keeps : Bool
+          keeps = x.weighed
+
           stays : Stays n old l'
           stays = stays_on n old l l' g.stays moved.stays
 
           module _ (good : GoodRows n c) (v : Running l live weighed turns left) where
             z : (spent? n c budget live l.marks ≡ false) × Turns n c live keeps (turn_by n c) l l' t
-            z = moves good v (Made t keeps) is_made
+            z = moves good v (Some x) is_made
 
             unsaid : Unsaid (row_checks c) n rule budget limit st
             unsaid = record { some_open_lem = open_now v; room = eqb_differ turns limit early; free = z.0 }
@@ -147,18 +152,18 @@ module _ (n : ℕ) (c : RowLists) (budget limit made : ℕ) (old : Working) (beg
             unfolding turn_by
             comes = z.1.comes turns
 
-            failed_end : t ≡ Failed → EndedAs n c l' (record { word = None; turns = turns + 1; live = 0 }) whole
+            failed_end : t ≡ None → EndedAs n c l' (record { word = Word.None; turns = turns + 1; live = 0 }) whole
             failed_end e = look (turn (row_checks c) n rule st) refl comes
               where
-                look : (s : Stage) → turn (row_checks c) n rule st ≡ s → StageAs n l' (suc turns) t s → EndedAs n c l' (record { word = None; turns = turns + 1; live = 0 }) whole
+                look : (s : Stage) → turn (row_checks c) n rule st ≡ s → StageAs n l' (suc turns) t s → EndedAs n c l' (record { word = Word.None; turns = turns + 1; live = 0 }) whole
                 look (failed st') i w =
-                    subst (EndedAs n c l' (record { word = None; turns = turns + 1; live = 0 }))
+                    subst (EndedAs n c l' (record { word = Word.None; turns = turns + 1; live = 0 }))
                     (sym (run_failed (row_checks c) n rule budget limit (limit - turns) st')
                     ∙ ap (run (row_checks c) n rule budget limit (limit - turns)) (sym i) ∙ goes)
                     (record { word = refl; turns = add-one turns ∙ w.2; live = sym w.3; marks = w.1; forms = λ j. never refl j; kept = λ j. never refl j })
                 look (on st') i w = let u : ◌≡◌ {A = Bool} true false = cc in never refl u
 
-            running_on : turns ≤ limit → (now : ℕ) → t ≡ Live now → Running l' now keeps (turns + 1) (left - 1)
+            running_on : turns ≤ limit → (now : ℕ) → t ≡ Some now → Running l' now keeps (turns + 1) (left - 1)
             unfolding run_from
             running_on in-limit now e = look (turn (row_checks c) n rule st) refl comes
               where
@@ -177,13 +182,13 @@ module _ (n : ℕ) (c : RowLists) (budget limit made : ℕ) (old : Working) (beg
                     steps : turns ≤ limit → suc (limit - (turns + 1)) ≡ limit - turns
                     steps w' = let d = lt_of_le_of_ne w' early in omega arith
 
-          pub goes_failed : t ≡ Failed → RunEnds n c budget limit made begun old l' (record { word = None; turns = turns + 1; live = 0 })
+          pub goes_failed : t ≡ None → RunEnds n c budget limit made begun old l' (record { word = Word.None; turns = turns + 1; live = 0 })
           goes_failed e = record { stays = stays; ends = λ good ready few. failed_end good (g.so good ready few) e }
 
-          pub goes_on : (now : ℕ) → t ≡ Live now → Goes l' now keeps (turns + 1) (left - 1)
-          goes_on now e =
-              record {
+          pub goes_on : (now : ℕ) → t ≡ Some now → (turns' left' : ℕ) → turns' ≡ turns + 1 → left' ≡ left - 1 → Goes l' now keeps turns' left'
+          goes_on now e turns' left' i j =
+              rw (i, j) (record {
                 stays = stays;
                 within = let d = lt_of_le_of_ne g.within early in omega arith;
                 so = λ good ready few. running_on good (g.so good ready few) g.within now e;
-              }
+              })

@@ -2,6 +2,7 @@
 use mathlib.Core.Path.{◌≡◌, refl, sym, ap, ◌∙◌, fun_ext, subst}
 use mathlib.Core.Bool.{Bool, true, false, not, ◌&&◌}
 use mathlib.Core.Option.{Option, none, some}
+use Rattle.std.specs.Prelude.{Some}
 use mathlib.Core.List.{List}
 use Prim.Native.Nat.{ℕ, suc, ◌+◌, ◌*◌, ◌≤◌, ◌<◌}
 use native.Mathlib.Numerals.{add-one}
@@ -12,8 +13,7 @@ use lib.ListN.{length-set}
 use Rattle.binary.specs.Meaning.{Qubits, Row, Check, has}
 use Rattle.binary.proofs.Bits.{bit as cases, never, eqb_differ}
 use Rattle.code.specs.Lists.{row_at}
-use Rattle.forms.specs.declared.Taken.{Taken}
-use Rattle.forms.specs.declared.Taken.TheVariants.{Live}
+use Rattle.forms.specs.Forms.{Taken}
 use Rattle.machine.specs.Machine.{Form, Forms, put, is_open, closed?, closing, side, take_up_all, stage, settle}
 use Rattle.machine.specs.Lists.{view, forms_of}
 use Rattle.forms.specs.Forms.{with_live, Topped, TakenAs, PutsSide, PutsGuess}
@@ -24,13 +24,15 @@ use Rattle.scans.specs.Rows.{RowLists, row_checks, GoodRows}
 use Rattle.scans.proofs.Scanning.{open_below_lem, view_set, rest_set, one_less_lem}
 use Rattle.kept.specs.Kept.{Kept, RowsOn}
 use Rattle.kept.proofs.Same.{kept_same, rows_same}
-use Rattle.guessing.specs.Guessing.{Weighed, WeightsAlone, Renews}
+use Rattle.guessing.specs.Guessing.{Weighed, WeightsAlone, WeighRoom, Renews}
 use Rattle.guessing.proofs.Adding.{alone_same}
 use Rattle.guessing.proofs.Room.{does_weigh}
 use Rattle.kept.proofs.Lowering.{not_has, has_open}
-use Rattle.closing.specs.Closing.{closed_at?, TakenRows, ClosingRows}
+use Rattle.closing.specs.Closing.{closed_at?, TakenRows, ClosingRows, ClosedRows}
 use Rattle.closing.proofs.TakingRows.{never_live}
-use Rattle.turns.specs.Turns.{Working, is_guessed, Ready, StageAs, Turns, Turned, Stays, settle_by, Settled, peel_by, guess_by}
+use Rattle.closing.proofs.ClosingRows.{closed_as}
+use Rattle.turns.specs.Lent.{Room}
+use Rattle.turns.specs.Turns.{Working, Unsettled, is_guessed, Ready, StageAs, Turns, Turned, Stays, settle_by, Settled, peel_by, guess_by}
 use Rattle.machine.proofs.Settling.{side_top}
 use Rattle.turns.proofs.Stays.{stays_on}
 use Rattle.machine.proofs.Stages.{open_put}
@@ -63,16 +65,36 @@ pub record Follows (n : ℕ) (c : RowLists) (p : ℕ) (weighed : Bool) (work wor
 pub follows_not : (n : ℕ) (c : RowLists) (p : ℕ) (weighed : Bool) (work : List ℕ) → weighed ≡ false → Follows n c p weighed work work
 follows_not n c p weighed work e = record { alone = alone_same n work; weights = λ t. never t e }
 
-pub follows_renewed : (n : ℕ) (c : RowLists) (p : ℕ) (weighed : Bool) (work work' : List ℕ) → n ≤ 1024 → c.count ≤ 512 → c.first + c.count ≤ 1024 → 10240 ≤ length work
-    → Renews n c.flat c.ends c.first c.count p work work' → Follows n c p weighed work work'
-follows_renewed n c p weighed work work' a b d e v =
-    let w = v.renews (does_weigh n c.first c.count work a b d e) in record { alone = w.alone; weights = λ t good o inside is_open_lem kept on weighs. w.renewed c.lit good o inside is_open_lem kept on weighs }
+pub follows_renewed : (n : ℕ) (c : RowLists) (p : ℕ) (weighed : Bool) (work work' : List ℕ) → WeighRoom n c work → Renews n c p work work' → Follows n c p weighed work work'
+follows_renewed n c p weighed work work' room v =
+    let w = v.renews (does_weigh n c work room) in record { alone = w.alone; weights = λ t good o inside is_open_lem kept on weighs. w.renewed c.lit good o inside is_open_lem kept on weighs }
 
 ----------------------------------------------------------------------
 -- A qubit settled
 
-module _ (n : ℕ) (c : RowLists) (old : Working) (forms' work₁ work' : List ℕ) (p m live : ℕ) (weighed : Bool) (size : n ≤ 1024) (few : c.count ≤ 512) (below : p < n) (in_marks : p < length old.marks)
-    (is_open_lem : is_open (view n old.marks) p ≡ true) (not-four : eqb m 4 ≡ false) (t : Taken) where
+-- Of sizes in range and lists long enough, the rows that a turn closed are taken up.
+pub closed_by : (n : ℕ) (c : RowLists) (l : Working) (p live : ℕ) (forms' work' : List ℕ) (t : Taken) → Room n c l → p < n → ClosedRows n c p live l.forms forms' l.work work' t
+    → ClosingRows n c p live l.forms forms' l.work work' t
+closed_by n c l p live forms' work' t r h v =
+    closed_as n c p live l.forms forms' l.work work' t (record { forms_long = r.forms; small = let size = r.size in omega arith; few = r.few; work_long = r.work; lit = r.read; last = r.last }) v
+
+module _ (n : ℕ) (c : RowLists) (old : Working) (forms' work₁ work' : List ℕ) (p m live : ℕ) (weighed : Bool) (room : Room n c old) (here : Unsettled n old.marks p)
+    (not-four : eqb m 4 ≡ false) (t : Taken) where
+  below : p < n
+  below = here.below
+
+  is_open_lem : is_open (view n old.marks) p ≡ true
+  is_open_lem = here.marked
+
+  size : n ≤ 1024
+  size = room.size
+
+  few : c.count ≤ 512
+  few = room.few
+
+  in_marks : p < length old.marks
+  in_marks = let m = room.marks in omega arith
+
   abbrev marks' : List ℕ
   marks' = set old.marks p m
 
@@ -94,9 +116,9 @@ module _ (n : ℕ) (c : RowLists) (old : Working) (forms' work₁ work' : List �
     e.2,
   )
 
-  topped_of : (r : Option Forms) → TakenAs n forms' r t → (k : ℕ) → t ≡ Live k → Topped n k forms'
+  topped_of : (r : Option Forms) → TakenAs n forms' r t → (k : ℕ) → t ≡ Some k → Topped n k forms'
   topped_of none e k i = never_live k (sym e ∙ i)
-  topped_of (some fs) e k i = let z : Live fs.live ≡ Live k = sym e.0 ∙ i in let same : fs.live ≡ k = cc in subst (λ (l : ℕ). Topped n l forms') same e.2
+  topped_of (some fs) e k i = let z : Some fs.live ≡ Some k = sym e.0 ∙ i in let same : fs.live ≡ k = cc in subst (λ (l : ℕ). Topped n l forms') same e.2
 
   pub settled : ClosingRows n c p live old.forms forms' old.work work₁ t → Follows n c p weighed work₁ work' → Settled n c p m live weighed old new t
   unfolding settle_by

@@ -6,18 +6,17 @@
 --   TurnedHalf  the turns: how the half ended
 --   report_by    the report of a half, counted from its marks
 --   Ran         the report and the lists are those of an end
---   enough?     whether sizes are in range and lists long enough for the turns; enoughIn?: of the lists
+--   enough?     whether sizes are in range and lists long enough for the turns
 --   Answers     the turns are made, or nothing is written
 --   Runs        the promise of `run_turns`; GoesOn: of `go_on`
-use Rattle.std.specs.Prelude.{◌≡◌, Bool, true, false, ◌&&◌, List, ℕ, suc, ◌+◌, ◌-◌, ◌*◌, leb, length}
+use Rattle.std.specs.Prelude.{◌≡◌, Bool, true, false, ◌&&◌, List, ℕ, suc, ◌-◌, ◌*◌, leb, length, Option, Some, None}
 use Rattle.scans.specs.Rows.{RowLists, row_checks, GoodRows}
+use Rattle.scans.specs.Half.{sized?}
 use Rattle.kept.specs.Kept.{Kept, RowsOn}
 use Rattle.machine.specs.declared.HalfReport.{HalfReport}
 use Rattle.machine.specs.Machine.{Stage, End, is_open, closed?, take_up_all, blank, stage, freest, run}
 use Rattle.machine.specs.Report.{marked, none?, report}
 use Rattle.machine.specs.Lists.{view, forms_of}
-use Rattle.turns.specs.declared.RunAnswer.{RunAnswer}
-use Rattle.turns.specs.declared.RunAnswer.TheVariants.{Refused, Over}
 use Rattle.turns.specs.declared.Ended.{Ended}
 use Rattle.forms.specs.Forms.{Topped}
 use Rattle.turns.specs.Turns.{Working, Stays, is_guessed, KeptOver, EndedAs, run_from}
@@ -67,29 +66,20 @@ pub record Ran (n : ℕ) (c : RowLists) (new : Working) (r : HalfReport) (e : En
   pub forms : none? e.word ≡ false → forms_of n new.forms ≡ e.state.forms.form
   pub kept : none? e.word ≡ false → KeptOver n c new.marks new.work
 
-pub record RanHalf (n : ℕ) (c : RowLists) (asked : Type 0) (e : End) (old new : Working) (r : HalfReport) : Type 0 where
-  pub stays : Stays n old new
-  pub ran : asked → Ran n c new r e
-
--- Of the lengths of the lists.
-unfoldable pub enough? : ℕ → ℕ → ℕ → ℕ → ℕ → ℕ → ℕ → Bool
-enough? n lit first count work marks forms =
-    leb n 1024 && leb count 512 && leb first 512 && leb 10240 work && leb (first + count) lit && leb n marks && leb (4 * n) forms
-
-abbrev pub enough_in? : ℕ → RowLists → Working → Bool
-enough_in? n c l = enough? n (length c.lit) c.first c.count (length l.work) (length l.marks) (length l.forms)
+unfoldable pub enough? : ℕ → RowLists → Working → Bool
+enough? n c l = sized? n c && leb c.first 512 && leb 10240 (length l.work) && leb n (length l.marks) && leb (4 * n) (length l.forms)
 
 -- For every input lists keep their lengths, marks what is past n and forms what is past 4 × n. Where it is told to be enough, the turns are made: where what is asked
 -- holds, as the machine makes them to this end. Otherwise nothing is written.
-pub record Answers (n : ℕ) (c : RowLists) (enough : Bool) (asked : Type 0) (e : End) (old new : Working) (r : RunAnswer) : Type 0 where
+pub record Answers (n : ℕ) (c : RowLists) (enough : Bool) (asked : Type 0) (e : End) (old new : Working) (r : Option HalfReport) : Type 0 where
   pub stays : Stays n old new
-  pub refused : enough ≡ false → (r ≡ Refused) × (new ≡ old)
-  pub over : enough ≡ true → (h : HalfReport) × (r ≡ Over h) × (asked → Ran n c new h e)
+  pub refused : enough ≡ false → (r ≡ None) × (new ≡ old)
+  pub over : enough ≡ true → (h : HalfReport) × (r ≡ Some h) × (asked → Ran n c new h e)
 
 -- Where sizes are in range and lists long enough: of rows that are strictly ascending and below n, and of what is kept of them.
-abbrev pub Runs : ℕ → RowLists → ℕ → ℕ → Working → Working → RunAnswer → Type 0
-Runs n c budget limit old new r = Answers n c (enough_in? n c old) (Begins n c old) (end_of n c budget limit old) old new r
+abbrev pub Runs : ℕ → RowLists → ℕ → ℕ → Working → Working → Option HalfReport → Type 0
+Runs n c budget limit old new r = Answers n c (enough? n c old) (Begins n c old) (end_of n c budget limit old) old new r
 
 -- And no more turns were made than the limit says.
-abbrev pub GoesOn : ℕ → RowLists → ℕ → ℕ → ℕ → Working → Working → RunAnswer → Type 0
-GoesOn n c budget limit made old new r = Answers n c (enough_in? n c old && leb made limit) (Midway n c old) (rest_of n c budget limit made old) old new r
+abbrev pub GoesOn : ℕ → RowLists → ℕ → ℕ → ℕ → Working → Working → Option HalfReport → Type 0
+GoesOn n c budget limit made old new r = Answers n c (enough? n c old && leb made limit) (Midway n c old) (rest_of n c budget limit made old) old new r

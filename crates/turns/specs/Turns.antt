@@ -1,5 +1,6 @@
 -- What the functions of a turn do to the lists.
 --   Working     the lists of a half at work: marks, forms, and what is kept of its rows
+--   Unsettled   a qubit below n is open
 --   Ready       the forms have no bit above the live guesses, and what is kept of the rows is so; of the weights, from the first guess on
 --   StageAs     the lists and the answer are a stage of the machine
 --   Turns       of lists that are ready, the stage that a turn leads to, with lists that are ready again
@@ -11,21 +12,20 @@
 --   EndedAs     the lists and the answer are the end of a half
 use Rattle.std.specs.Prelude.{◌≡◌, Bool, true, false, not, ◌&&◌, List, ℕ, suc, ◌-◌, ◌*◌, ◌≤◌, ◌<◌, eqb, length, get_or}
 use Rattle.std.proofs.Math.Option.{none}
+use Rattle.std.specs.Prelude.{Option, Some, None}
 use Rattle.binary.specs.Bits.{below}
 use Rattle.binary.specs.Meaning.{Qubits}
-use Rattle.forms.specs.declared.Taken.{Taken}
-use Rattle.forms.specs.declared.Taken.TheVariants.{Failed, Live}
-use Rattle.scans.specs.Rows.{RowLists, rows_in, check_at, row_checks, GoodRows}
+use Rattle.forms.specs.Forms.{Taken}
+use Rattle.scans.specs.Rows.{RowLists, check_at, row_checks, GoodRows}
 use Rattle.scans.specs.Scans.{OneLess}
 use Rattle.kept.specs.Kept.{Kept, RowsOn}
 use Rattle.turns.specs.declared.Move.{Move}
-use Rattle.turns.specs.declared.Move.TheVariants.{Spent, Made}
 use Rattle.turns.specs.declared.Ended.{Ended}
 use Rattle.machine.specs.Machine.{State, Stage, on, failed, End, is_open, dangling, some?, freest, settle, peel, guess, turn, run}
 use Rattle.machine.specs.Report.{none?}
 use Rattle.machine.specs.Lists.{view, forms_of}
 use Rattle.forms.specs.Forms.{Topped}
-use Rattle.guessing.specs.Guessing.{Weighed, WeightsAlone}
+use Rattle.guessing.specs.Guessing.{Weighed, WeightsAlone, with_lit}
 use Rattle.turns.specs.Lists.{state_of}
 
 pub record Working : Type 0 where
@@ -41,6 +41,10 @@ pub record Stays (n : ℕ) (old new : Working) : Type 0 where
   pub marks_rest : (q : ℕ) → n ≤ q → get_or new.marks q 0 ≡ get_or old.marks q 0
   pub forms_rest : (i : ℕ) → 4 * n ≤ i → get_or new.forms i 0 ≡ get_or old.forms i 0
 
+pub record Unsettled (n : ℕ) (marks : List ℕ) (p : ℕ) : Type 0 where
+  pub below : p < n
+  pub marked : is_open (view n marks) p ≡ true
+
 abbrev pub is_guessed : ℕ → List ℕ → ℕ → Bool
 is_guessed n marks q = eqb (view n marks q) 3
 
@@ -53,9 +57,9 @@ pub record Ready (n : ℕ) (c : RowLists) (live : ℕ) (weighed : Bool) (w : Wor
   pub unguessed : weighed ≡ false → (q : ℕ) → is_guessed n w.marks q ≡ false
 
 abbrev pub StageAs : ℕ → Working → ℕ → Taken → Stage → Type 0
-StageAs n l turns t (failed st) = (t ≡ Failed) × (view n l.marks ≡ st.mark) × (turns ≡ st.turns) × (st.forms.live ≡ 0)
+StageAs n l turns t (failed st) = (t ≡ None) × (view n l.marks ≡ st.mark) × (turns ≡ st.turns) × (st.forms.live ≡ 0)
 StageAs n l turns t (on st) =
-    (t ≡ Live st.forms.live) × (state_of n l.marks l.forms st.forms.live turns ≡ st) × Topped n st.forms.live l.forms
+    (t ≡ Some st.forms.live) × (state_of n l.marks l.forms st.forms.live turns ≡ st) × Topped n st.forms.live l.forms
 
 ----------------------------------------------------------------------
 -- A qubit settled
@@ -63,7 +67,7 @@ StageAs n l turns t (on st) =
 -- However many turns were made before.
 pub record Turns (n : ℕ) (c : RowLists) (live : ℕ) (weighed : Bool) (next : State → Stage) (old new : Working) (t : Taken) : Type 0 where
   pub comes : (turns : ℕ) → StageAs n new (suc turns) t (next (state_of n old.marks old.forms live turns))
-  pub ready : (k : ℕ) → t ≡ Live k → Ready n c k weighed new
+  pub ready : (k : ℕ) → t ≡ Some k → Ready n c k weighed new
 
 pub record Turned (n : ℕ) (c : RowLists) (live : ℕ) (weighed : Bool) (next : State → Stage) (old new : Working) (t : Taken) : Type 0 where
   pub stays : Stays n old new
@@ -102,36 +106,36 @@ abbrev pub SomeOpen : ℕ → List ℕ → Type 0
 SomeOpen n marks = below n (λ q. not (is_open (view n marks) q)) ≡ false
 
 -- The weights are counted, unless they are kept.
-pub record WeighedOnce (n : ℕ) (flat ends : List ℕ) (first count : ℕ) (weighed : Bool) (work work' : List ℕ) : Type 0 where
+pub record WeighedOnce (n : ℕ) (r : RowLists) (weighed : Bool) (work work' : List ℕ) : Type 0 where
   pub alone : WeightsAlone n work work'
-  pub weights : (lit : List ℕ) → let c = rows_in flat ends first count lit in GoodRows n c
+  pub weights : (lit : List ℕ) → let c = with_lit r lit in GoodRows n c
       → (o : Qubits) → ((q : ℕ) → o q ≡ true → q < n) → Kept o c work → (weighed ≡ true → Weighed o c work) → Weighed o c work'
 
 -- A turn settles one open qubit, whatever the lists hold. Where none is made, marks and forms stay.
-abbrev pub SettlesOne : ℕ → Working → Working → Move → Type 0
-SettlesOne n old new Spent = (new.marks ≡ old.marks) × (new.forms ≡ old.forms)
-SettlesOne n old new (Made t weighed) = OneLess n old.marks new.marks
+abbrev pub SettlesOne : ℕ → Working → Working → Option Move → Type 0
+SettlesOne n old new None = (new.marks ≡ old.marks) × (new.forms ≡ old.forms)
+SettlesOne n old new (Some m) = OneLess n old.marks new.marks
 
 -- No row dangles, and the budget is not spent. With the turn made it is told whether the weights are kept now.
-abbrev pub GuessedBy : ℕ → RowLists → ℕ → Working → Working → Move → Type 0
-GuessedBy n c live old new Spent = ⊥
-GuessedBy n c live old new (Made t weighed) = Turns n c live weighed (turn_by n c) old new t
+abbrev pub GuessedBy : ℕ → RowLists → ℕ → Working → Working → Option Move → Type 0
+GuessedBy n c live old new None = ⊥
+GuessedBy n c live old new (Some m) = Turns n c live m.weighed (turn_by n c) old new m.taken
 
-pub record Guessed (n : ℕ) (c : RowLists) (live : ℕ) (weighed : Bool) (old new : Working) (m : Move) : Type 0 where
+pub record Guessed (n : ℕ) (c : RowLists) (live : ℕ) (weighed : Bool) (old new : Working) (m : Option Move) : Type 0 where
   pub stays : Stays n old new
   pub one : SettlesOne n old new m
   pub guesses : GoodRows n c → Ready n c live weighed old → SomeOpen n old.marks → dangling (is_open (view n old.marks)) (row_checks c) ≡ none
       → GuessedBy n c live old new m
 
-abbrev pub MovedBy : ℕ → RowLists → ℕ → ℕ → Working → Working → Move → Type 0
-MovedBy n c budget live old new Spent = (new ≡ old) × (spent? n c budget live old.marks ≡ true)
-MovedBy n c budget live old new (Made t weighed) = (spent? n c budget live old.marks ≡ false) × Turns n c live weighed (turn_by n c) old new t
+abbrev pub MovedBy : ℕ → RowLists → ℕ → ℕ → Working → Working → Option Move → Type 0
+MovedBy n c budget live old new None = (new ≡ old) × (spent? n c budget live old.marks ≡ true)
+MovedBy n c budget live old new (Some m) = (spent? n c budget live old.marks ≡ false) × Turns n c live m.weighed (turn_by n c) old new m.taken
 
 -- That no row dangles is answered from the total that is kept: where it is 0, whatever the other elements hold.
-pub record Moved (n : ℕ) (c : RowLists) (budget live : ℕ) (weighed : Bool) (old new : Working) (m : Move) : Type 0 where
+pub record Moved (n : ℕ) (c : RowLists) (budget live : ℕ) (weighed : Bool) (old new : Working) (m : Option Move) : Type 0 where
   pub stays : Stays n old new
   pub one : SettlesOne n old new m
-  pub by_total : get_or old.work 8200 0 ≡ 0 → budget ≤ live → m ≡ Spent
+  pub by_total : get_or old.work 8200 0 ≡ 0 → budget ≤ live → m ≡ None
   pub moves : GoodRows n c → Ready n c live weighed old → SomeOpen n old.marks → live ≤ budget → MovedBy n c budget live old new m
 
 ----------------------------------------------------------------------

@@ -1,21 +1,21 @@
 -- Counts of entries, one by one. Assumes nothing.
-use mathlib.Core.Path.{◌≡◌, refl}
-use mathlib.Core.Bool.{Bool, true, false, cond}
+use Rattle.std.specs.Prelude.{Ok, Err}
+use mathlib.Core.Path.{◌≡◌, refl, sym, ◌∙◌}
+use mathlib.Core.Bool.{Bool, true, false}
 use mathlib.Core.List.{List}
-use Prim.Native.Nat.{ℕ, ◌+◌, ◌*◌, ◌≤◌, ◌<◌}
+use Prim.Native.Nat.{ℕ, min, ◌+◌, ◌*◌, ◌≤◌, ◌<◌}
 use native.Mathlib.Numerals.{add-one}
 use native.Mathlib.Omega.{arith}
 use mir.Syntax.{w32}
 use mir.Val.{Fits}
-use borrow.Author.Tests.{lt-ltb, le-ltb, ltb-true}
+use borrow.Author.Tests.{lt-ltb, le-ltb, ltb-true, ltb-false}
 use lib.Dec.{eqb, ltb}
 use lib.ListN.{length, get_or}
 use Rattle.machine.specs.Lists.{digit}
 use Rattle.window_meaning.specs.declared.HalfCounts.{HalfCounts}
 use Rattle.window_meaning.specs.declared.WindowRefusal.TheVariants.{Short}
-use Rattle.window_meaning.specs.declared.WindowAnswer.{WindowAnswer}
-use Rattle.window_meaning.specs.declared.WindowAnswer.TheVariants.{Counted}
 use Rattle.records.specs.Window.{kept_of}
+use Rattle.records.proofs.Window.{kept_few, kept_many}
 use Rattle.window_meaning.specs.Read.{sum_below, counts_at, window_answer}
 use Rattle.window.specs.Counts.{none_yet, plus, Few, counts_from}
 
@@ -28,6 +28,9 @@ pub room_for_one : (a : ℕ) (b : Bool) → a ≤ 65535 * 256 → Fits w32 (a + 
 room_for_one a b h = omega (arith, digit_small b)
 
 -- None yet.
+pub all_none : (c : HalfCounts) → (c.certain ≡ 0) × ((c.unsure ≡ 0) × ((c.none ≡ 0) × ((c.spent ≡ 0) × ((c.stopped ≡ 0) × ((c.turns ≡ 0) × ((c.guesses ≡ 0) × (c.live ≡ 0))))))) → c ≡ none_yet
+all_none c (a, (b, (d, (e, (f, (g, (h, k))))))) = λ i. record { certain = a i; unsure = b i; none = d i; spent = e i; stopped = f i; turns = g i; guesses = h i; live = k i }
+
 pub counts_none : (first : ℕ) (l : List ℕ) → none_yet ≡ counts_from first 0 l
 unfolding sum_below
 counts_none first l = refl
@@ -46,19 +49,6 @@ few_none =
     }
 
 module _ (k : ℕ) (c : HalfCounts) (f : Few k c) where
-  pub few_more : (m : ℕ) → k ≤ m → Few m c
-  few_more m h =
-      record {
-        certain = omega (arith, f.certain);
-        unsure = omega (arith, f.unsure);
-        none = omega (arith, f.none);
-        spent = omega (arith, f.spent);
-        stopped = omega (arith, f.stopped);
-        turns = omega (arith, f.turns);
-        guesses = omega (arith, f.guesses);
-        live = omega (arith, f.live);
-      }
-
   pub few_plus : (word turns guesses live : ℕ) → turns ≤ 65535 → guesses ≤ 65535 → live ≤ 65535 → Few (k + 1) (plus c word turns guesses live)
   few_plus word turns guesses live t g v =
       record {
@@ -81,18 +71,18 @@ counts_next first p l c e = rw (e, add-one p)
 ----------------------------------------------------------------------
 -- The answer
 
-pub kept_small : (m k : ℕ) → k ≡ kept_of m → k ≤ 256
-kept_small m k e = rw e (small (ltb m 256) refl)
+pub kept_min : (m : ℕ) → min m 256 ≡ kept_of m
+kept_min m = at (ltb m 256) refl
   where
-    small : (b : Bool) → ltb m 256 ≡ b → cond b m 256 ≤ 256
-    small true t = omega (arith, ltb-true m 256 t)
-    small false t = omega arith
+    at : (b : Bool) → ltb m 256 ≡ b → min m 256 ≡ kept_of m
+    at true t = let h = ltb-true m 256 t in let e : min m 256 ≡ m = omega (arith, h) in e ∙ sym (kept_few m h)
+    at false t = let h = ltb-false m 256 t in let e : min m 256 ≡ 256 = omega (arith, h) in e ∙ sym (kept_many m h)
 
-pub read_short : (m : ℕ) (l : List ℕ) → length l < 2560 → WindowAnswer.Refused Short ≡ window_answer m l
+pub read_short : (m : ℕ) (l : List ℕ) → length l < 2560 → Err Short ≡ window_answer m l
 unfolding window_answer
 read_short m l h = rw (lt-ltb (length l) 2560 h)
 
 pub read_counted : (m : ℕ) (l : List ℕ) → 2560 ≤ length l → (k : ℕ) → k ≡ kept_of m → (x z : HalfCounts) → x ≡ counts_from 0 k l → z ≡ counts_from 5 k l
-    → Counted (record { x = x; z = z }) ≡ window_answer m l
+    → Ok (record { x = x; z = z }) ≡ window_answer m l
 unfolding window_answer counts_at
 read_counted m l h k e x z ex ez = rw (le-ltb (length l) 2560 h, ex, ez, e)

@@ -1,4 +1,3 @@
-pub mod Lengths
 pub mod Entering
 pub mod Counts
 pub mod Tied

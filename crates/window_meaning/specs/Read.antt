@@ -2,17 +2,17 @@
 --   counted       of any entries: how many had each word, and the sums of turns, guesses and live
 --   window_number  the number of a refusal of a read
 --   window_answer  the answer to a read, for every input
-use Rattle.std.specs.Prelude.{cond, List, ℕ, zero, suc, ◌+◌, eqb, ltb, length}
+use Rattle.std.specs.Prelude.{cond, List, ℕ, zero, suc, ◌+◌, eqb, ltb, length, Result, Ok, Err}
 use Rattle.machine.specs.declared.Word.{Word}
 use Rattle.machine.specs.declared.Word.TheVariants.{Certain, Unsure, None, Spent, Stopped}
 use Rattle.machine.specs.Lists.{digit}
-use Rattle.records.specs.Records.{Pauli, X, Z}
+use Rattle.records.specs.declared.Pauli.{Pauli}
+use Rattle.records.specs.declared.Pauli.TheVariants.{X, Z}
 use Rattle.records.specs.Window.{kept_of, word_number, Entry, entry_at}
 use Rattle.window_meaning.specs.declared.HalfCounts.{HalfCounts}
+use Rattle.window_meaning.specs.declared.Counts.{Counts}
 use Rattle.window_meaning.specs.declared.WindowRefusal.{WindowRefusal}
 use Rattle.window_meaning.specs.declared.WindowRefusal.TheVariants.{Short}
-use Rattle.window_meaning.specs.declared.WindowAnswer.{WindowAnswer}
-use Rattle.window_meaning.specs.declared.WindowAnswer.TheVariants.{Counted}
 
 abbrev pub had : Word → Entry → ℕ
 had w e = digit (eqb e.word (word_number w))
@@ -42,6 +42,6 @@ abbrev pub window_number : WindowRefusal → ℕ
 window_number Short = 12
 
 -- m: the number of reports in the state.
-unfoldable pub window_answer : ℕ → List ℕ → WindowAnswer
+unfoldable pub window_answer : ℕ → List ℕ → Result Counts WindowRefusal
 window_answer m l =
-    cond (ltb (length l) 2560) (WindowAnswer.Refused Short) (Counted (record { x = counts_at X (kept_of m) l; z = counts_at Z (kept_of m) l }))
+    cond (ltb (length l) 2560) (Err Short) (Ok (record { x = counts_at X (kept_of m) l; z = counts_at Z (kept_of m) l }))

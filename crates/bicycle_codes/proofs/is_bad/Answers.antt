@@ -2,5 +2,4 @@
 use Rattle.bicycle_codes.proofs.is_bad.Goals as goal
 
 pub returns : goal.returns
-returns c =
-    rw (c.is_outside.ensures, c.is_outside-2.ensures, c.is_outside-3.ensures, c.is_same.ensures, c.is_same-2.ensures, c.is_same-3.ensures)
+returns c = rw (c.is_outside.ensures, c.is_outside-2.ensures, c.is_outside-3.ensures, c.eq.ensures, c.eq-2.ensures, c.eq-3.ensures)

@@ -1,7 +1,8 @@
 -- `bicycle_codes::put_row` meets its contract. Assumes nothing.
-use Prim.Native.Nat.{◌+◌}
+use mathlib.Core.Path.{◌≡◌}
 use native.Mathlib.Omega.{arith}
-use lib.ListN.{length-set}
+use lib.ListN.{length, length-set}
+use borrow.Author.Rules.{rules}
 use Rattle.bicycle_codes.proofs.Stores.{six_stores}
 use Rattle.bicycle_codes.proofs.put_row.Goals as goal
 
@@ -23,4 +24,6 @@ bounds-rows-at-6 c = rw (length-set _ _ _, length-set _ _ _, length-set _ _ _, l
 pub returns : goal.returns
 returns c =
     let a = c.args in
-    six_stores a.rows.now a.at a.left.low a.left.mid a.left.high (a.lift + a.right.low) (a.lift + a.right.mid) (a.lift + a.right.high)
+    let l : length a.left ≡ 3 = search rules in
+    let r : length a.right ≡ 3 = search rules in
+    six_stores a.rows.now a.at a.lift a.left a.right l r

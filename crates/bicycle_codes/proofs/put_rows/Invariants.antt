@@ -1,11 +1,6 @@
 -- `bicycle_codes::put_rows` meets its contract: after p turns the rows of p places are written. Assumes nothing.
-use mathlib.Core.Path.{◌≡◌}
-use Prim.Native.Nat.{◌*◌, ◌-◌, ◌≤◌}
 use Rattle.bicycle_codes.specs.Writing.{row_by, RowsPut}
 use Rattle.bicycle_codes.proofs.put_rows.Given as goal
 
 abbrev pub invariant-loop-p : goal.invariant-loop-p
-invariant-loop-p l = (l.count ≡ l.l * l.m) × (l.p ≤ l.l * l.m) × RowsPut l.first l.p (row_by l.l l.m l.left l.right) l.initial.rows l.rows
-
-abbrev pub decreases-loop-p : goal.decreases-loop-p
-decreases-loop-p l = l.l * l.m - l.p
+invariant-loop-p l = RowsPut l.first l.p (row_by l.l l.m l.left l.right) l.initial.rows l.rows

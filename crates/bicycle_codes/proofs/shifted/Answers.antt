@@ -1,12 +1,11 @@
 -- `bicycle_codes::shifted` meets its contract. Assumes nothing.
 use native.Mathlib.Omega.{arith}
 use Rattle.bicycle_codes.proofs.Shifting.{shifts}
+use Rattle.bicycle_codes.proofs.Sorting.{sorted_three}
 use Rattle.bicycle_codes.proofs.shifted.Goals as goal
 
 pub returns : goal.returns
 returns c =
     let a = c.args in
-    let z = c.moved-z.ensures in
-    let y = c.moved-y.ensures in
-    let x = c.moved-x.ensures in
-    shifts a.l a.m a.p a.t _ _ _ _ (omega arith) (omega arith) x y z c.sort.ensures
+    let s = c.sort_unstable.ensures in
+    shifts a.l a.m a.p a.t _ _ _ _ (omega arith) (omega arith) c.moved.ensures c.moved-2.ensures c.moved-3.ensures (sorted_three _ _ _ _ s.permutation s.sorted)

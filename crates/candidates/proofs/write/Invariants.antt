@@ -1,5 +1,5 @@
 -- `candidates::write` meets its contract. Assumes nothing.
-use Prim.Native.Nat.{◌-◌, ◌*◌, ◌%◌, ◌≤◌}
+use Prim.Native.Nat.{◌*◌, ◌%◌}
 use lib.Bits.{bit_and}
 use lib.Count.{ones}
 use lib.ListN.{get_or}
@@ -7,7 +7,4 @@ use Rattle.lists.specs.Filled.{Filled}
 use Rattle.candidates.proofs.write.Given as goal
 
 abbrev pub invariant-loop-q : goal.invariant-loop-q
-invariant-loop-q l = (l.q ≤ l.n) × Filled (λ k. ones (bit_and (get_or l.forms (4 * k) 0) l.mask) % 2) l.q l.initial.list l.list
-
-abbrev pub decreases-loop-q : goal.decreases-loop-q
-decreases-loop-q l = l.n - l.q
+invariant-loop-q l = Filled (λ k. ones (bit_and (get_or l.forms (4 * k) 0) l.mask) % 2) l.q l.initial.list l.list

@@ -8,10 +8,10 @@ pub loop-r-init : goal.loop-r-init
 loop-r-init c = refl
 
 pub returns-then-has_odd : goal.returns-then-has_odd
-returns-then-has_odd c = even_odd _ _ _ _ _ _ c.loop-r.invariant _ c.row_at-row.ensures (search rules) _ c.has_odd.ensures (search rules)
+returns-then-has_odd c = even_odd _ _ _ _ _ _ c.loop-r.invariant _ c.row.ensures (search rules) _ c.has_odd.ensures (search rules)
 
 pub loop-r-preserved : goal.loop-r-preserved
-loop-r-preserved c = even_turn _ _ _ _ _ _ c.loop-r.invariant _ c.row_at-row.ensures (search rules) _ c.has_odd.ensures (search rules)
+loop-r-preserved c = even_turn _ _ _ _ _ _ c.loop-r.invariant _ c.row.ensures (search rules) _ c.has_odd.ensures (search rules)
 
 pub returns : goal.returns
 returns c = even_end _ _ _ _ _ _ c.loop-r.invariant (search rules)

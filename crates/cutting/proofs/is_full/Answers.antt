@@ -1,13 +1,15 @@
 -- `cutting::is_full` meets its contract. Assumes nothing.
-use borrow.Author.Rules.{rules}
+use mathlib.Core.Path.{◌∙◌}
+use native.Mathlib.Omega.{arith}
+use borrow.Author.Tests.{lt-ltb}
 use Rattle.cutting.proofs.Full.{full_told, full_else}
 use Rattle.cutting.proofs.is_full.Goals as goal
 
-pub returns-then-room-put : goal.returns-then-room-put
-returns-then-room-put c = full_told _ _ _ _ (search rules)
+pub returns-then-saturating_sub-lt-ANSWER : goal.returns-then-saturating_sub-lt-ANSWER
+returns-then-saturating_sub-lt-ANSWER c =
+    let l = c.if-saturating_sub-lt-ANSWER.true in
+    lt-ltb _ _ l ∙ full_told _ _ _ _ (omega (arith, l, c.saturating_sub.ensures))
 
-pub returns-then-room-put-lt-ANSWER : goal.returns-then-room-put-lt-ANSWER
-returns-then-room-put-lt-ANSWER c = full_told _ _ _ _ (search rules)
-
-pub returns : goal.returns
-returns c = full_else _ _ _ _ (search rules)
+pub returns-else-saturating_sub-lt-ANSWER : goal.returns-else-saturating_sub-lt-ANSWER
+returns-else-saturating_sub-lt-ANSWER c =
+    full_else _ _ _ _ (omega (arith, c.if-saturating_sub-lt-ANSWER.false, c.saturating_sub.ensures))

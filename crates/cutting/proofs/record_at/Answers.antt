@@ -13,5 +13,5 @@ returns-then-whole-left c = at_whole c.args.bytes.now c.args.at c.args.ended c.w
 pub returns-then-ended : goal.returns-then-ended
 returns-then-ended c = rw c.if-ended.true (at_cut c.args.bytes.now c.args.at true c.whole_length-whole.result c.whole_length-whole.ensures (search rules))
 
-pub returns : goal.returns
-returns c = rw c.if-ended.false (at_cut c.args.bytes.now c.args.at false c.whole_length-whole.result c.whole_length-whole.ensures (search rules))
+pub returns-else-ended : goal.returns-else-ended
+returns-else-ended c = rw c.if-ended.false (at_cut c.args.bytes.now c.args.at false c.whole_length-whole.result c.whole_length-whole.ensures (search rules))

@@ -11,5 +11,5 @@ returns c =
     let decoded = c.args.decoded in (
       entered.result,
       entered.ensures,
-      ap (λ (s : State). record { state = s; answer = Decoded decoded }) (c.reported.ensures ∙ ap (reported_of entered.result) c.ended-after.ensures),
+      ap (λ (s : State). record { state = s; answer = Decoded decoded }) (c.reported.ensures ∙ ap (reported_of entered.result) c.ended.ensures),
     )

@@ -1,11 +1,6 @@
--- `filling::add_row` meets its contract. Assumes nothing.
-use Prim.Native.Nat.{◌-◌, ◌≤◌}
-use lib.ListN.{length}
+-- `filling::add_row` meets its contract: the qubits before place q-index are looked at. Assumes nothing.
 use Rattle.filling.proofs.KeptRows.{Adding}
 use Rattle.filling.proofs.add_row.Given as goal
 
-abbrev pub invariant-loop-j : goal.invariant-loop-j
-invariant-loop-j l = (l.j ≤ length l.row) × Adding l.n l.i.0 l.row l.marks l.initial.work l.j l.work l.open
-
-abbrev pub decreases-loop-j : goal.decreases-loop-j
-decreases-loop-j l = length l.row - l.j
+abbrev pub invariant-loop-q : goal.invariant-loop-q
+invariant-loop-q l = Adding l.n l.i.0 l.row l.marks l.initial.work l.q-index l.work l.open

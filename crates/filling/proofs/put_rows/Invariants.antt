@@ -1,11 +1,6 @@
--- `filling::put_rows` meets its contract: the rows before place k are put. Assumes nothing.
-use Prim.Native.Nat.{◌-◌, ◌≤◌}
-use lib.ListN.{length}
+-- `filling::put_rows` meets its contract: the rows before row r are put. Assumes nothing.
 use Rattle.filling.proofs.KeptQubits.{Putting}
 use Rattle.filling.proofs.put_rows.Given as goal
 
-abbrev pub invariant-loop-k : goal.invariant-loop-k
-invariant-loop-k l = (l.k ≤ length l.on) × Putting l.q.0 l.on l.rows.first.0 l.rows.count l.lit l.initial.work l.k l.work
-
-abbrev pub decreases-loop-k : goal.decreases-loop-k
-decreases-loop-k l = length l.on - l.k
+abbrev pub invariant-loop-r : goal.invariant-loop-r
+invariant-loop-r l = Putting l.q.0 l.on l.half.rows.first.0 l.half.rows.count l.half.lit.now l.initial.work l.r-index l.work

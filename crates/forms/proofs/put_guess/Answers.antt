@@ -4,14 +4,8 @@ use Rattle.forms.proofs.Putting.{guess_nothing, puts_guess}
 use Rattle.forms.proofs.put_guess.Goals as goal
 
 pub returns-then-n-qubit : goal.returns-then-n-qubit
-returns-then-n-qubit c = guess_nothing _ _ _ _ (λ a b d. absurd (omega arith))
-
-pub returns-then-forms-n : goal.returns-then-forms-n
-returns-then-forms-n c = guess_nothing _ _ _ _ (λ a b d. absurd (omega arith))
-
-pub returns-then-guess-gt255 : goal.returns-then-guess-gt255
-returns-then-guess-gt255 c = guess_nothing _ _ _ _ (λ a b d. absurd (omega arith))
+returns-then-n-qubit c = guess_nothing _ _ _ _ (λ a b d. absurd (grind arith))
 
 pub returns : goal.returns
 returns c =
-    puts_guess _ _ _ _ (omega arith) (omega arith) (omega arith) _ c.clear_words.ensures
+    puts_guess _ _ _ _ (omega arith) (omega arith) (omega arith) _ c.clear.ensures

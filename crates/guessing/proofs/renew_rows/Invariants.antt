@@ -2,11 +2,12 @@
 use mathlib.Core.Path.{◌≡◌}
 use Prim.Native.Nat.{◌-◌, ◌≤◌}
 use lib.ListN.{length}
+use Rattle.scans.specs.Half.{rows_of}
 use Rattle.guessing.proofs.Renewing.{Renewing}
 use Rattle.guessing.proofs.renew_rows.Given as goal
 
 abbrev pub invariant-loop-i : goal.invariant-loop-i
-invariant-loop-i l = (l.i ≤ l.count) × (length l.work ≡ length l.initial.work) × Renewing l.n l.flat l.ends l.first l.count l.p.0 l.initial.work l.work l.i
+invariant-loop-i l = (l.i ≤ l.half.rows.count) × (length l.work ≡ length l.initial.work) × Renewing l.n (rows_of l.half) l.p.0 l.initial.work l.work l.i
 
 abbrev pub decreases-loop-i : goal.decreases-loop-i
-decreases-loop-i l = l.count - l.i
+decreases-loop-i l = l.half.rows.count - l.i

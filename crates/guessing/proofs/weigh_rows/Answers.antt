@@ -1,5 +1,4 @@
 -- `guessing::weigh_rows` meets its contract: the rows before row i are counted. Assumes nothing.
-use borrow.Author.Rules.{rules}
 use mathlib.Core.Path.{refl, ◌∙◌}
 use Prim.Native.Nat.{◌+◌}
 use native.Mathlib.Omega.{arith}
@@ -9,25 +8,24 @@ use Rattle.guessing.proofs.Weighing.{counting_start, counting_row, counting_end}
 use Rattle.guessing.proofs.weigh_rows.Goals as goal
 
 pub loop-i-init : goal.loop-i-init
-loop-i-init c = (search rules, refl, counting_start _ _ _ _ _ _ _ c.clear_words.ensures)
+loop-i-init c = (refl, counting_start _ _ _ _ c.clear.ensures)
 
 pub add_row-requires : goal.add_row-requires
 add_row-requires c =
     let l = c.loop-i.invariant in
     let start = c in
-    (start.requires.0, omega (arith, start.requires.3, l.1, c.clear_words.ensures.long), share_small (get_or c.loop-i.work (8704 + c.loop-i.i) 0) _ c.share.ensures)
+    (start.requires.size, omega (arith, start.requires.long, l.0, c.clear.ensures.long), share_small (get_or c.loop-i.work (8704 + c.loop-i.i) 0) _ c.share.ensures)
 
 pub loop-i-preserved : goal.loop-i-preserved
 loop-i-preserved c =
     let l = c.loop-i.invariant in
     let added = c.add_row.ensures in (
-      search rules,
-      added.alone.long ∙ l.1,
-      counting_row _ _ _ _ _ _ _ _ l.2 c.loop-i-test.true c.requires.1 _ _ refl c.share.ensures _ added,
+      added.alone.long ∙ l.0,
+      counting_row _ _ _ _ _ l.1 c.loop-i-test.true c.requires.few _ _ refl c.share.ensures _ added,
     )
 
 pub shape_of-work : goal.shape_of-work
-shape_of-work c = c.loop-i.invariant.1 ∙ c.clear_words.ensures.long
+shape_of-work c = c.loop-i.invariant.0 ∙ c.clear.ensures.long
 
 pub returns : goal.returns
-returns c = counting_end _ _ _ _ _ _ _ c.clear_words.ensures _ _ c.loop-i.invariant.2 (search rules) c.requires.1
+returns c = counting_end _ _ _ _ c.clear.ensures _ _ c.loop-i.invariant.1 (omega arith) c.requires.few

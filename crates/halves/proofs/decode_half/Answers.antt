@@ -1,21 +1,26 @@
 -- `halves::decode_half` meets its contract. Assumes nothing.
-use native.Mathlib.Omega.{arith}
-use Rattle.halves.specs.Decode.{Given}
-use Rattle.halves.proofs.HalfDecodes.{room_then, decodes_refused, decodes_done}
+use mathlib.Core.Path.{ap}
+use mathlib.Core.Bool.{not}
+use Rattle.machine.specs.Lent.{half_lists}
+use Rattle.halves.specs.Decode.{given}
+use Rattle.halves.proofs.HalfDecodes.{long_enough, room_then, decodes_refused, decodes_done}
 use Rattle.halves.proofs.decode_half.Goals as goal
 
-pub returns-in_default : goal.returns-in_default
-returns-in_default c =
-    let a = c.args in
-    decodes_refused _ a.work.now (record { marks = a.marks.now; forms = a.forms.now; correction = a.correction.now }) _ _ c.run_half-ran.ensures c.in_default.is
+pub returns-then-not-is_enough-clause-decodes : goal.returns-then-not-is_enough-clause-decodes
+returns-then-not-is_enough-clause-decodes c =
+    let a = c.args in decodes_refused (given a.half.now a.lost.now a.others a.budget a.limit) a.work.now (half_lists a.lists.now) _ (c.is_enough.ensures a.budget a.limit) (ap not c.if-not-is_enough.true)
+
+pub run_half-requires : goal.run_half-requires
+run_half-requires c =
+    let a = c.args in (long_enough (given a.half.now a.lost.now a.others a.budget a.limit) a.work.now (half_lists a.lists.now) _ (c.is_enough.ensures a.budget a.limit) (ap not c.if-not-is_enough.false)).0
 
 pub finish-requires : goal.finish-requires
 finish-requires c =
     let a = c.args in
-    let g : Given = record { n = a.n; flat = a.flat.now; ends = a.ends.now; lost = a.lost.now; lit = a.lit.now; first = a.own.first.0; count = a.own.count; other = a.others.first.0; others = a.others.count; budget = a.budget; limit = a.limit } in
-    room_then g a.work.now (record { marks = a.marks.now; forms = a.forms.now; correction = a.correction.now }) _ _ c.run_half-ran.ensures _ c.in-Over.is
+    room_then (given a.half.now a.lost.now a.others a.budget a.limit) a.work.now (half_lists a.lists.now) _ _ (c.is_enough.ensures a.budget a.limit) (ap not c.if-not-is_enough.false) _ c.run_half.ensures
 
-pub returns : goal.returns
-returns c =
+pub returns-clause-decodes : goal.returns-clause-decodes
+returns-clause-decodes c =
     let a = c.args in
-    decodes_done _ a.work.now (record { marks = a.marks.now; forms = a.forms.now; correction = a.correction.now }) _ _ c.run_half-ran.ensures _ c.in-Over.is _ c.finish.ensures (λ i. omega (arith, c.slice_known-9-1.given i))
+    decodes_done (given a.half.now a.lost.now a.others a.budget a.limit) a.work.now (half_lists a.lists.now) _ _ (c.is_enough.ensures a.budget a.limit) (ap not c.if-not-is_enough.false) _ c.run_half.ensures
+    _ c.in_ok-told.was _ c.finish.ensures.finished c.finish.ensures.words

@@ -23,4 +23,4 @@ pub loop-j-preserved : goal.loop-j-preserved
 loop-j-preserved c = (search rules, search rules, rw c.loop-j.invariant.2 (word_more _ _ _ (omega arith) (omega arith)))
 
 pub returns : goal.returns
-returns c = let e : c.loop-j.j ≡ c.args.from = omega (arith, c.loop-j-test.false) in rw e at c.loop-j.invariant.2
+returns c = let e : c.loop-j.j ≡ c.args.from = omega arith in rw e at c.loop-j.invariant.2

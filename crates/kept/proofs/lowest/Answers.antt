@@ -1,14 +1,11 @@
 -- `kept::lowest` meets its contract. Assumes nothing.
-use Rattle.kept.proofs.Tallying.{lowest_short, lowest_none, lowest_found}
 use native.Mathlib.Omega.{arith}
 use borrow.Author.Rules.{rules}
+use Rattle.kept.proofs.Tallying.{lowest_none, lowest_found}
 use Rattle.kept.proofs.lowest.Goals as goal
 
 pub returns-then-work-lt-END : goal.returns-then-work-lt-END
-returns-then-work-lt-END c = lowest_short _ _ (omega arith)
-
-pub returns-then-work-eq0 : goal.returns-then-work-eq0
-returns-then-work-eq0 c = lowest_none _ _ (omega arith)
+returns-then-work-lt-END c = lowest_none _ _ (grind arith)
 
 pub returns : goal.returns
 returns c = lowest_found _ _ (omega arith) (search rules) _ c.next_in.ensures

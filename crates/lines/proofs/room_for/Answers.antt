@@ -4,4 +4,4 @@ use Rattle.lines.proofs.room_for.Goals as goal
 
 pub returns : goal.returns
 unfolding room_for
-returns c = rw (c.least.ensures, c.least-2.ensures)
+returns c = rw (c.min.ensures, c.min-2.ensures, c.from-n.ensures)

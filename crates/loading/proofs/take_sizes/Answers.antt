@@ -14,7 +14,7 @@ returns-then-short c = size_short _ _ _ _ _ _ (told_true _ _ c.in_range.ensures 
 
 pub progress-requires : goal.progress-requires
 progress-requires c =
-    let a = c.args in
+    let a = c.args.sizes in
     let range = range_out a.n a.x a.z (told_true _ _ c.in_range.ensures (search rules)) in
     omega (arith, range.xs, range.zs)
 

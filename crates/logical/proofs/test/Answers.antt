@@ -1,5 +1,5 @@
 -- `logical::test` meets its contract: each way is a line of the table. Assumes nothing.
-use mathlib.Core.Path.{sym, ◌∙◌}
+use mathlib.Core.Path.{refl, sym, ◌∙◌}
 use native.Mathlib.Omega.{arith}
 use borrow.Author.Tests.{eq-eqb, ne_eqb}
 use Rattle.logical.proofs.Ranking.{all_ranked}
@@ -29,4 +29,4 @@ returns-then-together-sizes c =
 
 pub returns : goal.returns
 returns c =
-    agrees _ _ _ _ _ _ (sym c.codeless.ensures ∙ c.if-codeless.false) _ c.in_range.ensures c.if-short-in_range.false _ (all_ranked _ _ _ _ c.ranks.ensures) (eq-eqb _ _ c.if-together-sizes.false) c.agreed.ensures
+    agrees _ _ _ _ _ _ (sym c.codeless.ensures ∙ c.if-codeless.false) _ c.in_range.ensures c.if-short-in_range.false _ (all_ranked _ _ _ _ c.ranks.ensures) (eq-eqb _ _ c.if-together-sizes.false) refl

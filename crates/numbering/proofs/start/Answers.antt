@@ -25,7 +25,7 @@ set_known-requires c =
     let f = c in
     let a = c.args in
     let o = startable_out a.w a.rows a.n (length a.lost.now) (length a.work.now) f.if-fits.true in
-    (o.3, o.0, omega (arith, o.2, c.clear_words.auto.list))
+    (o.3, o.0, omega (arith, o.2, c.clear.auto.list))
 
 pub number_rows-requires : goal.number_rows-requires
 unfolding startable?
@@ -34,7 +34,7 @@ number_rows-requires c =
     let f = k in
     let a = f.args in
     let o = startable_out a.w a.rows a.n (length a.lost.now) (length a.work.now) f.if-fits.true in
-    (o.1, o.0, omega (arith, o.2, c.set_known.auto.m, k.clear_words.auto.list))
+    (o.1, o.0, omega (arith, o.2, c.set_known.auto.m, k.clear.auto.list))
 
 pub returns-then-fits : goal.returns-then-fits
 unfolding startable?
@@ -42,7 +42,7 @@ returns-then-fits c =
     let r = c in
     let k = r in
     let f = k in
-    all_started _ _ _ _ _ _ _ _ f.if-fits.true f.clear_words.ensures k.set_known.ensures r.number_rows.ensures
+    all_started _ _ _ _ _ _ _ _ f.if-fits.true f.clear.ensures k.set_known.ensures r.number_rows.ensures
 
 pub returns-else-fits : goal.returns-else-fits
 unfolding startable?

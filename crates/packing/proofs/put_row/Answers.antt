@@ -1,26 +1,21 @@
 -- `packing::put_row` meets its contract. Assumes nothing.
 use mathlib.Core.Path.{◌∙◌}
-use Prim.Native.Nat.{◌+◌}
-use native.Mathlib.Omega.{arith}
-use Rattle.packing.proofs.Rows.{few_words}
-use Rattle.packing.proofs.Put.{room_yes, room_wide, room_high, room_short, put_done, put_refused}
 use borrow.Author.Rules.{rules}
+use Rattle.packing.proofs.Put.{room_yes, room_wide, room_high, room_short, put_done, put_refused}
 use Rattle.packing.proofs.put_row.Goals as goal
+use Rattle.packing.proofs.put_row.Goals.{then-words-gt16-via-then-words-gt16, then-words-gt16-via-else-words-gt16+then-i-ge512, then-words-gt16-via-else-words-gt16+else-i-ge512+then-work-i}
 
 pub returns-then-words-gt16 : goal.returns-then-words-gt16
-returns-then-words-gt16 c = put_refused _ _ _ _ (room_wide _ _ _ (search rules))
-
-pub returns-then-i-ge512 : goal.returns-then-i-ge512
-returns-then-i-ge512 c = put_refused _ _ _ _ (room_high _ _ _ (search rules))
-
-pub overflow_mul-i : goal.overflow_mul-i
-overflow_mul-i c = let a = c.args in omega (arith, few_words (a.i + 1) a.words (search rules) (search rules))
-
-pub returns-then-work-i : goal.returns-then-work-i
-returns-then-work-i c = put_refused _ _ _ _ (room_short _ _ _ (search rules))
+returns-then-words-gt16 c =
+    put_refused _ _ _ _
+    (elim c.then-words-gt16.branch [
+      | then-words-gt16-via-then-words-gt16 w ↦ room_wide _ _ _ w.if-words-gt16.true
+      | then-words-gt16-via-else-words-gt16+then-i-ge512 w ↦ room_high _ _ _ w.if-i-ge512.true
+      | then-words-gt16-via-else-words-gt16+else-i-ge512+then-work-i w ↦ room_short _ _ _ w.if-work-i.true
+    ])
 
 pub returns : goal.returns
 returns c =
     let s = c.set_bits in
-    let z = c.clear_words in
+    let z = c.clear in
     put_done _ _ _ _ _ _ z.ensures s.ensures (s.auto.m ∙ z.auto.list) (room_yes _ _ _ (search rules) (search rules) (search rules))

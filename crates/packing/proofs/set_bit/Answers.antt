@@ -1,10 +1,7 @@
 -- `packing::set_bit` meets its contract. Assumes nothing.
-use Rattle.packing.proofs.Rows.{bit_set_row, bit_past_row}
 use borrow.Author.Rules.{rules}
+use Rattle.packing.proofs.Rows.{bit_set_row}
 use Rattle.packing.proofs.set_bit.Goals as goal
 
-pub returns-then-w-k : goal.returns-then-w-k
-returns-then-w-k c = bit_past_row _ _ _ _ (search rules)
-
-pub returns : goal.returns
-returns c = bit_set_row _ _ _ _ (search rules) (search rules)
+pub returns-then-k-w : goal.returns-then-k-w
+returns-then-k-w c = bit_set_row _ _ _ _ (search rules) (search rules)

@@ -7,7 +7,7 @@ use Rattle.peeling.proofs.Steps.{Goes}
 use Rattle.peeling.proofs.peels_away.Given as goal
 
 abbrev pub invariant-loop-left : goal.invariant-loop-left
-invariant-loop-left l = (enough? l.n l.rows.first.0 l.rows.count (length l.initial.marks) (length l.initial.work) ≡ true) × Goes l.n l.flat l.ends l.rows.first.0 l.rows.count (record { marks = l.initial.marks; work = l.initial.work }) l.left (record { marks = l.marks; work = l.work })
+invariant-loop-left l = (enough? l.half.n l.half.rows.first.0 l.half.rows.count (length l.initial.marks) (length l.initial.work) ≡ true) × Goes l.half.n l.half.code.flat.now l.half.code.ends.now l.half.rows.first.0 l.half.rows.count (record { marks = l.initial.marks; work = l.initial.work }) l.left (record { marks = l.marks; work = l.work })
 
 abbrev pub decreases-loop-left : goal.decreases-loop-left
 decreases-loop-left l = l.left

@@ -8,4 +8,4 @@ use Rattle.rack.proofs.rack_window.Goals as goal
 pub returns : goal.returns
 returns c =
     c.window.ensures
-    ∙ ap plain_window (c.read-read.ensures ∙ ap (λ (s : State). window_answer s.reports c.args.window.now) c.state_of.ensures)
+    ∙ ap plain_window (c.read.ensures ∙ ap (λ (s : State). window_answer s.reports c.args.window.now) c.from.ensures)

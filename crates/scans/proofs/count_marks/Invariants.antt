@@ -1,12 +1,9 @@
 -- `scans::count_marks` meets its contract: the marks so far are counted. Assumes nothing.
 use mathlib.Core.Path.{◌≡◌}
-use Prim.Native.Nat.{◌-◌, ◌≤◌}
+use Prim.Native.Nat.{◌≤◌}
 use Rattle.machine.specs.Report.{marked}
 use Rattle.machine.specs.Lists.{view}
 use Rattle.scans.proofs.count_marks.Given as goal
 
 abbrev pub invariant-loop-q : goal.invariant-loop-q
-invariant-loop-q l = (l.q ≤ l.n) × (l.total ≤ l.q) × (l.total ≡ marked l.q (view l.n l.marks) l.m)
-
-abbrev pub decreases-loop-q : goal.decreases-loop-q
-decreases-loop-q l = l.n - l.q
+invariant-loop-q l = (l.total ≤ l.q) × (l.total ≡ marked l.q (view l.n l.marks) l.m)

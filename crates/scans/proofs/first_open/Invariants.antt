@@ -1,13 +1,9 @@
 -- `scans::first_open` meets its contract: no qubit so far is open. Assumes nothing.
 use mathlib.Core.Path.{◌≡◌}
-use Prim.Native.Nat.{◌-◌, ◌≤◌}
-use lib.ListN.{length, drop}
+use lib.ListN.{drop}
 use Rattle.machine.specs.Machine.{is_open, part}
 use Rattle.machine.specs.Lists.{view}
 use Rattle.scans.proofs.first_open.Given as goal
 
 abbrev pub invariant-loop-i : goal.invariant-loop-i
-invariant-loop-i l = (l.i ≤ length l.row) × (part (is_open (view l.n l.marks)) (drop 0 l.row) ≡ part (is_open (view l.n l.marks)) (drop l.i l.row))
-
-abbrev pub decreases-loop-i : goal.decreases-loop-i
-decreases-loop-i l = length l.row - l.i
+invariant-loop-i l = part (is_open (view l.n l.marks)) (drop 0 l.row) ≡ part (is_open (view l.n l.marks)) (drop l.i l.row)

@@ -15,7 +15,7 @@ pub take_column-next-requires : goal.take_column-next-requires
 take_column-next-requires c =
     let a = c.args in
     let p = c.requires in
-    ((omega (arith, p.0, p.2.0), p.1, p.2.2, p.2.3, p.2.4, p.2.5), tally_few a.rows (λ i. leb a.top i && cell a.work.now a.w i a.q))
+    ((omega (arith, p.0, p.2.0), p.1, p.2.2, p.2.3, p.2.4, p.2.5), tally_few a.sizes.rows (λ i. leb a.top i && cell a.work.now a.sizes.words i a.q))
 
 pub returns-then-next-top : goal.returns-then-next-top
 returns-then-next-top c =

@@ -1,11 +1,7 @@
 -- `starting::start_marks` meets its contract: the first q qubits are marked. Assumes nothing.
-use Prim.Native.Nat.{◌-◌, ◌≤◌}
 use Rattle.lists.specs.Filled.{Filled}
 use Rattle.starting.specs.Starting.{open_mark}
 use Rattle.starting.proofs.start_marks.Given as goal
 
 abbrev pub invariant-loop-q : goal.invariant-loop-q
-invariant-loop-q l = (l.q ≤ l.n) × Filled (open_mark l.n l.lost) l.q l.initial.marks l.marks
-
-abbrev pub decreases-loop-q : goal.decreases-loop-q
-decreases-loop-q l = l.n - l.q
+invariant-loop-q l = Filled (open_mark l.n l.lost) l.q l.initial.marks l.marks

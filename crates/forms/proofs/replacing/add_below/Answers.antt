@@ -2,19 +2,16 @@
 use mathlib.Core.Path.{◌≡◌, ◌∙◌}
 use native.Mathlib.Omega.{arith}
 use Rattle.forms.proofs.Changing.{side_kept, below_start, below_turn}
-use borrow.Author.Rules.{rules}
 use Rattle.forms.proofs.replacing.add_below.Goals as goal
 
 pub loop-u-init : goal.loop-u-init
-loop-u-init c = (search rules, below_start _ _ _ _ _)
+loop-u-init c = below_start _ _ _ _ _
 
 pub loop-u-preserved : goal.loop-u-preserved
 loop-u-preserved c =
-    let l = c.loop-u in (
-      omega arith,
-      below_turn _ _ _ _ _ _ _ _ _ c.loop-u-test.true l.invariant.1
-          (λ j. c.side_word-side.ensures.bits j ∙ side_kept _ _ _ _ _ _ _ _ l.invariant.1 j) c.add_side.ensures,
-    )
+    let l = c.loop-u in
+    below_turn _ _ _ _ _ _ _ _ _ c.loop-u-test.true l.invariant
+    (λ j. c.side_word-side.ensures.bits j ∙ side_kept _ _ _ _ _ _ _ _ l.invariant j) c.add_side.ensures
 
 pub returns : goal.returns
-returns c = let e : c.loop-u.u ≡ c.args.v = omega arith in rw e at c.loop-u.invariant.1
+returns c = let e : c.loop-u.u ≡ c.args.v = omega arith in rw e at c.loop-u.invariant

@@ -1,12 +1,8 @@
 -- `forms::replacing::add_below` meets its contract: the words below word u are added. Assumes nothing.
-use Prim.Native.Nat.{◌-◌, ◌≤◌}
 use Rattle.forms.specs.Words.{side_in}
 use Rattle.forms.specs.Changes.{Changed, adding_below}
-use Rattle.forms.specs.Sides.{check}
+use Rattle.forms.specs.Sides.{check_of}
 use Rattle.forms.proofs.replacing.add_below.Given as goal
 
 abbrev pub invariant-loop-u : goal.invariant-loop-u
-invariant-loop-u l = (l.u ≤ l.v) × Changed l.n (adding_below l.v l.k l.u (side_in l.n l.initial.forms (check l.lit l.row))) l.initial.forms l.forms
-
-abbrev pub decreases-loop-u : goal.decreases-loop-u
-decreases-loop-u l = l.v - l.u
+invariant-loop-u l = Changed l.n (adding_below l.v l.k l.u (side_in l.n l.initial.forms (check_of l.check))) l.initial.forms l.forms

@@ -1,11 +1,7 @@
 -- `forms::replacing::add_side` meets its contract: the first q forms are done. Assumes nothing.
-use Prim.Native.Nat.{◌-◌, ◌≤◌}
 use Rattle.binary.specs.Words.{bit}
 use Rattle.forms.specs.Changes.{Changed, adding}
 use Rattle.forms.proofs.replacing.add_side.Given as goal
 
 abbrev pub invariant-loop-q : goal.invariant-loop-q
-invariant-loop-q l = (l.q ≤ l.n) × Changed l.q (adding l.v l.k l.u (bit l.side)) l.initial.forms l.forms
-
-abbrev pub decreases-loop-q : goal.decreases-loop-q
-decreases-loop-q l = l.n - l.q
+invariant-loop-q l = Changed l.q (adding l.v l.k l.u (bit l.side)) l.initial.forms l.forms

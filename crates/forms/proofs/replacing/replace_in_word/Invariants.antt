@@ -1,11 +1,7 @@
 -- `forms::replacing::replace_in_word` meets its contract: the first q forms are done. Assumes nothing.
-use Prim.Native.Nat.{◌-◌, ◌≤◌}
 use Rattle.binary.specs.Words.{bit}
 use Rattle.forms.specs.Changes.{Changed, replacing}
 use Rattle.forms.proofs.replacing.replace_in_word.Given as goal
 
 abbrev pub invariant-loop-q : goal.invariant-loop-q
-invariant-loop-q l = (l.q ≤ l.n) × Changed l.q (replacing l.v l.k (bit l.side)) l.initial.forms l.forms
-
-abbrev pub decreases-loop-q : goal.decreases-loop-q
-decreases-loop-q l = l.n - l.q
+invariant-loop-q l = Changed l.q (replacing l.v l.k (bit l.side)) l.initial.forms l.forms

@@ -1,19 +1,19 @@
 -- `lines::halves::put_flips` meets its contract. Assumes nothing.
-use Rattle.lines.proofs.Flips.{flips_more, flips_all}
-use native.Mathlib.Omega.{arith}
-use Rattle.text.proofs.Putting.{puts_none}
-use borrow.Author.Rules.{rules}
+use lib.ListN.{take}
+use Rattle.text.proofs.Putting.{adds_none}
 use Rattle.lines.specs.Lines.{flips}
+use Rattle.lines.proofs.Flips.{flips_more, flips_all}
 use Rattle.lines.proofs.halves.put_flips.Goals as goal
 
-pub loop-q-init : goal.loop-q-init
+pub loop-qubit-init : goal.loop-qubit-init
 unfolding flips
-loop-q-init c = (search rules, search rules, search rules, puts_none _ _)
+loop-qubit-init c = adds_none _
 
-pub loop-q-preserved : goal.loop-q-preserved
-loop-q-preserved c =
-    let l = c.loop-q in
-    (search rules, search rules, search rules, flips_more c.args.correction.now l.q l.invariant.3 (omega arith) c.put_flip-end.ensures)
+pub loop-qubit-preserved : goal.loop-qubit-preserved
+loop-qubit-preserved c =
+    let l = c.loop-qubit in
+    flips_more (take c.min-most.result c.args.correction.now) l.qubit l.invariant c.loop-qubit-test.true c.put_flip.ensures
 
 pub returns : goal.returns
-returns c = flips_all c.args.correction.now c.args.n c.loop-q.q c.loop-q.invariant.3 (omega arith)
+returns c =
+    flips_all c.args.correction.now c.args.n c.min-most.result c.loop-qubit.qubit (rw c.from.ensures at c.min-most.ensures) c.loop-qubit-test.false c.loop-qubit.invariant

@@ -1,13 +1,8 @@
 -- `lines::halves::put_flips` meets its contract. Assumes nothing.
-use mathlib.Core.Path.{◌≡◌}
-use Prim.Native.Nat.{◌-◌, ◌≤◌, min}
-use lib.ListN.{length, take}
-use Rattle.text.specs.Text.{Puts}
+use lib.ListN.{take}
+use Rattle.text.specs.Line.{Adds}
 use Rattle.lines.specs.Lines.{flips}
 use Rattle.lines.proofs.halves.put_flips.Given as goal
 
-abbrev pub invariant-loop-q : goal.invariant-loop-q
-invariant-loop-q l = (l.q ≤ l.most) × (l.most ≡ min l.n (length l.correction)) × (length l.out ≡ length l.initial.out) × Puts (flips 0 (take l.q l.correction)) l.at l.initial.out l.out l.end
-
-abbrev pub decreases-loop-q : goal.decreases-loop-q
-decreases-loop-q l = l.most - l.q
+abbrev pub invariant-loop-qubit : goal.invariant-loop-qubit
+invariant-loop-qubit l = Adds (flips 0 (take l.qubit l.element-items)) l.initial.line l.line

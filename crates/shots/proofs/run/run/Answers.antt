@@ -10,14 +10,14 @@ use mathlib.Core.Path.{◌≡◌, refl, ◌∙◌}
 use Rattle.shots.proofs.run.run.Goals as goal
 
 pub loop-refills-init : goal.loop-refills-init
-loop-refills-init g c = (runs_none _ _ c.fresh-st.result c.fresh-st.ensures, refl, refl, refl, refl, refl, refl, refl)
+loop-refills-init g c = (runs_none _ _ c.fresh.result c.fresh.ensures, record { flat = refl; ends = refl; shot = refl; window = refl }, refl, refl, refl)
 
 pub take_block-here-requires : goal.take_block-here-requires
 take_block-here-requires g c =
     let l = c.loop-refills in
     let f = c.refill-read in
     let o : l.here.over ≡ false = not-true _ c.if-not-here.true in
-    (omega (arith, f.ensures.most l.invariant.0.held, f.auto.block), (goes_on l.invariant.0 o).1, room_left c.requires l.invariant.6 l.invariant.7)
+    (omega (arith, f.ensures.most l.invariant.0.held, f.auto.block), (goes_on l.invariant.0 o).1, room_left c.requires l.invariant.3 l.invariant.4)
 
 pub overflow_sub-refills : goal.overflow_sub-refills
 overflow_sub-refills g c = omega (arith, c.loop-refills-test.true)
@@ -30,54 +30,32 @@ loop-refills-preserved g c =
     let l = c.loop-refills in
     let r = c.take_block-here in
     let f = c.refill-read in
+    let same = r.ensures.same_passed in
+    let old = l.invariant.1 in
     let o : l.here.over ≡ false = not-true _ c.if-not-here.true in
-    let b : BlockRead l.here l.block f.new.block f.result = record { goes = o; room = goes_room l.invariant.0 o (omega (arith, l.invariant.5, c.requires.bytes)); refills = f.ensures; same = f.auto.block } in
-    (runs_more l.invariant.0 _ f.new.block _ r.result f.result b r.ensures c.loop-refills-test.true, r.auto.flat ∙ l.invariant.1, r.auto.ends ∙ l.invariant.2, r.auto.shot ∙ l.invariant.3, r.auto.window ∙ l.invariant.4, r.auto.block ∙ (f.auto.block ∙ l.invariant.5), r.auto.out ∙ l.invariant.6, r.auto.places ∙ l.invariant.7)
-
-pub shape_of-flat-else-not-here : goal.shape_of-flat-else-not-here
-shape_of-flat-else-not-here g c = c.loop-refills.invariant.1
-
-pub shape_of-ends-else-not-here : goal.shape_of-ends-else-not-here
-shape_of-ends-else-not-here g c = c.loop-refills.invariant.2
-
-pub shape_of-shot-else-not-here : goal.shape_of-shot-else-not-here
-shape_of-shot-else-not-here g c = c.loop-refills.invariant.3
-
-pub shape_of-window-else-not-here : goal.shape_of-window-else-not-here
-shape_of-window-else-not-here g c = c.loop-refills.invariant.4
+    let b : BlockRead l.here l.block f.new.block f.result = record { goes = o; room = goes_room l.invariant.0 o (omega (arith, l.invariant.2, c.requires.bytes)); refills = f.ensures; same = f.auto.block } in
+    (runs_more l.invariant.0 _ f.new.block _ r.result f.result b r.ensures.taken c.loop-refills-test.true, record { flat = same.flat ∙ old.flat; ends = same.ends ∙ old.ends; shot = same.shot ∙ old.shot; window = same.window ∙ old.window }, r.auto.block ∙ (f.auto.block ∙ l.invariant.2), r.auto.out ∙ l.invariant.3, r.auto.places ∙ l.invariant.4)
 
 pub shape_of-block-else-not-here : goal.shape_of-block-else-not-here
-shape_of-block-else-not-here g c = c.loop-refills.invariant.5
+shape_of-block-else-not-here g c = c.loop-refills.invariant.2
 
 pub shape_of-out-else-not-here : goal.shape_of-out-else-not-here
-shape_of-out-else-not-here g c = c.loop-refills.invariant.6
+shape_of-out-else-not-here g c = c.loop-refills.invariant.3
 
 pub shape_of-places-else-not-here : goal.shape_of-places-else-not-here
-shape_of-places-else-not-here g c = c.loop-refills.invariant.7
+shape_of-places-else-not-here g c = c.loop-refills.invariant.4
 
 pub returns-else-not-here : goal.returns-else-not-here
-returns-else-not-here g c = runs_ran c.loop-refills.invariant.0 (inl (not-false _ c.if-not-here.false))
-
-pub shape_of-flat-after-loop-refills : goal.shape_of-flat-after-loop-refills
-shape_of-flat-after-loop-refills g c = c.loop-refills.invariant.1
-
-pub shape_of-ends-after-loop-refills : goal.shape_of-ends-after-loop-refills
-shape_of-ends-after-loop-refills g c = c.loop-refills.invariant.2
-
-pub shape_of-shot-after-loop-refills : goal.shape_of-shot-after-loop-refills
-shape_of-shot-after-loop-refills g c = c.loop-refills.invariant.3
-
-pub shape_of-window-after-loop-refills : goal.shape_of-window-after-loop-refills
-shape_of-window-after-loop-refills g c = c.loop-refills.invariant.4
+returns-else-not-here g c = record { ran = runs_ran c.loop-refills.invariant.0 (inl (not-false _ c.if-not-here.false)); same_passed = c.loop-refills.invariant.1 }
 
 pub shape_of-block-after-loop-refills : goal.shape_of-block-after-loop-refills
-shape_of-block-after-loop-refills g c = c.loop-refills.invariant.5
+shape_of-block-after-loop-refills g c = c.loop-refills.invariant.2
 
 pub shape_of-out-after-loop-refills : goal.shape_of-out-after-loop-refills
-shape_of-out-after-loop-refills g c = c.loop-refills.invariant.6
+shape_of-out-after-loop-refills g c = c.loop-refills.invariant.3
 
 pub shape_of-places-after-loop-refills : goal.shape_of-places-after-loop-refills
-shape_of-places-after-loop-refills g c = c.loop-refills.invariant.7
+shape_of-places-after-loop-refills g c = c.loop-refills.invariant.4
 
 pub returns-after-loop-refills : goal.returns-after-loop-refills
-returns-after-loop-refills g c = runs_ran c.loop-refills.invariant.0 (inr (omega (arith, c.loop-refills-test.false)))
+returns-after-loop-refills g c = record { ran = runs_ran c.loop-refills.invariant.0 (inr (omega (arith, c.loop-refills-test.false))); same_passed = c.loop-refills.invariant.1 }

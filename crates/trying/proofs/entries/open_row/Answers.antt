@@ -1,21 +1,15 @@
 -- `trying::entries::open_row` meets its contract. Assumes nothing.
 use mathlib.Core.Path.{sym, ◌∙◌}
-use native.Mathlib.Omega.{arith}
 use Rattle.binary.proofs.Bits.{never}
+use Rattle.trying.proofs.OnQubit.{not_among}
 use Rattle.trying.proofs.OpeningRows.{row_passed, row_opened}
-use borrow.Author.Rules.{rules}
 use Rattle.trying.proofs.entries.open_row.Goals as goal
 
-pub returns-then-r-first : goal.returns-then-r-first
-returns-then-r-first c = row_passed _ _ _ _ _ _ (λ i a. omega (arith, a.is, c.if-r-first.true))
-
-pub returns-then-rows-i : goal.returns-then-rows-i
-returns-then-rows-i c = row_passed _ _ _ _ _ _ (λ i a. omega (arith, a.is, a.within, c.if-rows-i.true))
+pub returns-in_default : goal.returns-in_default
+returns-in_default c = row_passed _ _ _ _ _ _ (λ i a. not_among _ _ _ c.in_default.ensures.none i a.is a.within)
 
 pub returns-then-not-is_read : goal.returns-then-not-is_read
 returns-then-not-is_read c = row_passed _ _ _ _ _ _ (λ i a. never a.read (sym c.is_read.ensures ∙ c.if-not-is_read.true))
 
 pub returns : goal.returns
-returns c =
-    let start = c in
-    row_opened _ _ _ _ _ _ (search rules) (search rules) (sym c.is_read.ensures ∙ c.if-not-is_read.false) start.requires.0 start.requires.1 _ c.raise.ensures
+returns c = let i = c.in-Some.ensures.found in row_opened _ _ _ _ _ _ _ i.0 i.1 (sym c.is_read.ensures ∙ c.if-not-is_read.false) c.requires.0 c.requires.1 _ c.raise.ensures

@@ -1,11 +1,6 @@
--- `trying::entries::open_rows` meets its contract: the rows before place k have the qubit. Assumes nothing.
-use Prim.Native.Nat.{◌-◌, ◌≤◌}
-use lib.ListN.{length}
+-- `trying::entries::open_rows` meets its contract: the rows before the one at hand have the qubit. Assumes nothing.
 use Rattle.trying.proofs.OpeningRows.{Opening}
 use Rattle.trying.proofs.entries.open_rows.Given as goal
 
-abbrev pub invariant-loop-k : goal.invariant-loop-k
-invariant-loop-k l = (l.k ≤ length l.on) × Opening l.q.0 l.on l.rows.first.0 l.rows.count l.lit l.initial.work l.k l.work
-
-abbrev pub decreases-loop-k : goal.decreases-loop-k
-decreases-loop-k l = length l.on - l.k
+abbrev pub invariant-loop-r : goal.invariant-loop-r
+invariant-loop-r l = Opening l.q.0 l.on l.rows.first.0 l.rows.count l.lit l.initial.work l.r-index l.work

@@ -1,11 +1,6 @@
--- `trying::entries::settle_rows` meets its contract: the rows before place k have the value in place of the qubit. Assumes nothing.
-use Prim.Native.Nat.{◌-◌, ◌≤◌}
-use lib.ListN.{length}
+-- `trying::entries::settle_rows` meets its contract: the rows before the one at hand have the value in place of the qubit. Assumes nothing.
 use Rattle.trying.proofs.SettlingRows.{Settling}
 use Rattle.trying.proofs.entries.settle_rows.Given as goal
 
-abbrev pub invariant-loop-k : goal.invariant-loop-k
-invariant-loop-k l = (l.k ≤ length l.on) × Settling l.p.0 l.v l.on l.rows.first.0 l.rows.count l.lit l.initial.work l.k l.work
-
-abbrev pub decreases-loop-k : goal.decreases-loop-k
-decreases-loop-k l = length l.on - l.k
+abbrev pub invariant-loop-r : goal.invariant-loop-r
+invariant-loop-r l = Settling l.p.0 l.v l.on l.rows.first.0 l.rows.count l.lit l.initial.work l.r-index l.work

@@ -2,23 +2,27 @@
 use mathlib.Core.Path.{refl}
 use native.Mathlib.Omega.{arith}
 use Rattle.scans.proofs.Scanning.{open_below_lem}
+use Rattle.turns.specs.Lent.{working}
 use Rattle.turns.proofs.Moves.{moved_shut, moved_peel, moved_spent, moved_guess}
 use Rattle.turns.proofs.turns.make_turn.Goals as goal
 
-pub returns-then-budget-live : goal.returns-then-budget-live
-returns-then-budget-live c = moved_spent _ _ _ _ _ (record { marks = c.args.marks.now; forms = c.args.forms.now; work = c.args.work.now }) (record { marks = c.args.marks.now; forms = c.args.forms.now; work = c.args.work.now }) _ c.lowest-i.ensures (omega (arith, c.requires.n_bound.3)) (omega arith) (omega arith)
+pub returns-then-budget-live-clause-moved : goal.returns-then-budget-live-clause-moved
+returns-then-budget-live-clause-moved c =
+    moved_spent _ _ _ _ _ (working c.args.lists.now) (working c.args.lists.now) _ c.lowest-i.ensures (omega (arith, c.requires.room.work)) c.if-rows-i.true c.if-budget-live.true
 
-pub returns-then-rows-i : goal.returns-then-rows-i
-returns-then-rows-i c = moved_guess _ _ _ _ _ (record { marks = c.args.marks.now; forms = c.args.forms.now; work = c.args.work.now }) _ _ c.lowest-i.ensures (omega (arith, c.requires.n_bound.3)) (omega (arith, c.if-rows-i.true)) (omega (arith, c.if-budget-live.false)) _ c.guess_freest.ensures
+pub returns-then-rows-i-clause-moved : goal.returns-then-rows-i-clause-moved
+returns-then-rows-i-clause-moved c =
+    moved_guess _ _ _ _ _ (working c.args.lists.now) _ _ c.lowest-i.ensures (omega (arith, c.requires.room.work)) c.if-rows-i.true c.if-budget-live.false _ c.guess_freest.ensures.guessed
 
-pub returns-then-row-at : goal.returns-then-row-at
-returns-then-row-at c = moved_shut _ _ _ _ _ (record { marks = c.args.marks.now; forms = c.args.forms.now; work = c.args.work.now }) (record { marks = c.args.marks.now; forms = c.args.forms.now; work = c.args.work.now }) _ c.lowest-i.ensures (omega (arith, c.requires.n_bound.3)) (omega (arith, c.if-rows-i.false)) _ c.row_at-row.ensures _ c.first_open-at.ensures c.if-row-at.true
+pub returns-then-row-at-clause-moved : goal.returns-then-row-at-clause-moved
+returns-then-row-at-clause-moved c =
+    moved_shut _ _ _ _ _ (working c.args.lists.now) (working c.args.lists.now) _ c.lowest-i.ensures (omega (arith, c.requires.room.work)) c.if-rows-i.false _ c.row-row.ensures _ c.first_open-at.ensures c.if-row-at.true
 
-pub peel-taken-requires : goal.peel-taken-requires
-peel-taken-requires c =
-    let start = c in
-    let is_open_lem = c.first_open-at.ensures.found (omega (arith, c.if-row-at.false)) in
-    record { n_bound = start.requires.n_bound; p_lt_n = (open_below_lem _ start.args.marks.now _ is_open_lem, is_open_lem, omega (arith, start.requires.n_bound.5, c.if-rows-i.false)) }
+pub peel-taken-requires-clause-unsettled : goal.peel-taken-requires-clause-unsettled
+peel-taken-requires-clause-unsettled c =
+    let is_open_lem = c.first_open-at.ensures.found c.if-row-at.false in
+    record { below = open_below_lem _ c.args.lists.now.marks.now _ is_open_lem; marked = is_open_lem }
 
-pub returns : goal.returns
-returns c = moved_peel _ _ _ _ _ (record { marks = c.args.marks.now; forms = c.args.forms.now; work = c.args.work.now }) _ _ c.lowest-i.ensures (omega (arith, c.requires.n_bound.3)) (omega (arith, c.if-rows-i.false)) _ c.row_at-row.ensures _ c.first_open-at.ensures _ refl _ c.peel-taken.ensures
+pub returns-clause-moved : goal.returns-clause-moved
+returns-clause-moved c =
+    moved_peel _ _ _ _ _ (working c.args.lists.now) _ _ c.lowest-i.ensures (omega (arith, c.requires.room.work)) c.if-rows-i.false _ c.row-row.ensures _ c.first_open-at.ensures _ refl _ c.peel-taken.ensures.turned

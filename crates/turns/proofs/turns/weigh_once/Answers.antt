@@ -5,9 +5,7 @@ use Rattle.turns.proofs.Moves.{once_kept, once_counted}
 use Rattle.turns.proofs.turns.weigh_once.Goals as goal
 
 pub returns-then-not-weighed : goal.returns-then-not-weighed
-returns-then-not-weighed c =
-    let start = c in
-    once_counted _ _ _ _ _ _ start.args.work.now start.requires.0 start.requires.1 start.requires.2 start.requires.3 _ c.weigh.ensures
+returns-then-not-weighed c = once_counted _ _ _ c.args.work.now c.requires _ c.weigh.ensures
 
 pub returns-else-not-weighed : goal.returns-else-not-weighed
-returns-else-not-weighed c = once_kept _ _ _ _ _ _ _ (ap not c.if-not-weighed.false)
+returns-else-not-weighed c = once_kept _ _ _ _ (ap not c.if-not-weighed.false)
