@@ -6,6 +6,7 @@ import sys
 
 ROOTS = {
     "The claim": ["claim/specs/Claim.antt"],
+    "The contract of one record": ["records/specs/Lent.antt"],
     "A call that is about no run": ["bicycle_codes/specs/Laws.antt", "bicycle_codes/specs/Table.antt"],
     "The library, in plain numbers": ["rack/specs/Candidates.antt", "rack/specs/Runs.antt"],
 }

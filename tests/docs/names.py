@@ -210,11 +210,21 @@ def public_functions(crate):
                 yield f"{crate}::{name}"
 
 
+# From what a library makes what: a number is told by the row of what it numbers.
+def conversions(crate):
+    for file in files(f"crates/{crate}/src/*.rt"):
+        yield from re.findall(r"^impl From<(\w+)> for (\w+) \{", text_of(file), re.M)
+
+
 def check_crate(crate, readme, claims):
     tell(f"`{crate}`" in readme, f"README.md does not name {crate}")
     if os.path.isfile(f"crates/{crate}/src/lib.rt"):
         for name in public_functions(crate):
             tell(f"`{name}`" in claims.split("## Public functions")[1], f"the public functions of docs/CLAIMS.md lack {name}")
+        for given, made in conversions(crate):
+            rows = claims.split("## Public functions")[1].splitlines()
+            named = [row for row in rows if f"`{given}`" in row and (f"`{made}`" in row or re.fullmatch(r"u\d+", made))]
+            tell(named, f"the public functions of docs/CLAIMS.md lack {made} from {given}")
     for file in files(f"crates/{crate}/specs/**/*.antt"):
         taken = [use for use, of in re.findall(r"^((?:pub )?use Rattle\.(\w+)\.proofs\b.*)", text_of(file), re.M) if of in crates]
         tell(not taken, f"{file} stands on a proof: {'; '.join(taken)}")

@@ -31,8 +31,14 @@ impl Rows {
         ensures found { IfSome result (λ i. (r.0 ≡ self.first.0 + i.0) × (i.0 < self.count)) }
         ensures none { IfNone result ((r.0 < self.first.0) ⊎ (self.first.0 + self.count ≤ r.0)) }
     {
-        let place = r.0.checked_sub(self.first.0)?;
-        (place < self.count).then_some(KindRow(place))
+        if r.0 < self.first.0 {
+            return None;
+        }
+        let place = r.0 - self.first.0;
+        if self.count <= place {
+            return None;
+        }
+        Some(KindRow(place))
     }
 }
 

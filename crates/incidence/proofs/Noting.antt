@@ -1,25 +1,16 @@
 -- The list after a row: turns of the loops that write it. Assumes nothing.
 use mathlib.Core.Path.{◌≡◌, refl, sym, ap, ◌∙◌}
 use mathlib.Core.Bool.{cond}
-use mathlib.Core.Logic.{◌⊎◌}
 use mathlib.Core.List.{List, [], ◌∷◌}
-use Prim.Native.Nat.{ℕ, zero, suc, ◌+◌, ◌-◌, ◌≤◌, ◌<◌}
-use native.Mathlib.Nat.{sub-zero}
-use native.Mathlib.Omega.{arith}
+use Prim.Native.Nat.{ℕ, zero, suc, ◌+◌, ◌≤◌, ◌<◌}
 use native.Mathlib.Numerals.{add-one}
 use borrow.Author.Tests.{lt-ltb, le-ltb, le-leb, lt-leb, eq-eqb, ne_eqb}
 use lib.Dec.{eqb, leb, ltb}
-use lib.ListN.{length, get_or, set, take, drop, length-drop, length-set, drop_of_length-le}
-use lib.Seq.{drop-cons, take-take, length-take-le}
-use Rattle.std.proofs.Common.{Bor}
-use Rattle.std.specs.List.{slice_range}
-use Rattle.std.specs.Option.{MatchOption, IfSome}
-use Rattle.std.specs.declared.option.Option.{Option}
-use Rattle.std.specs.declared.option.Option.TheVariants.{None, Some}
+use lib.ListN.{length, get_or, set, drop, length-set, drop_of_length-le}
 use Rattle.binary.specs.Meaning.{Row}
 use Rattle.binary.proofs.Bits.{bit}
 use Rattle.code.proofs.Turns.{drop_turn}
-use Rattle.incidence.specs.Incidence.{slot, number_on, rows_on, note_on, note_all, emptied, noted}
+use Rattle.incidence.specs.Incidence.{slot, number_on, note_on, note_all, emptied, noted}
 
 ----------------------------------------------------------------------
 -- The ways through one qubit
@@ -62,36 +53,6 @@ all_done i row old l j h e = sym (ap (λ (r : Row). note_all i r l) (drop_of_len
 pub empty_turn : (old l : List ℕ) (q : ℕ) → l ≡ emptied q old → set l (slot q) 0 ≡ emptied (q + 1) old
 unfolding emptied
 empty_turn old l q e = rw (e, add-one q)
-
-----------------------------------------------------------------------
--- What is read of the rows on a qubit
-
-module _ (l : List ℕ) (q number : ℕ) (elements rows : List ℕ) (long : slot q + 15 ≤ length l) (is : elements ≡ slice_range l (slot q) (slot q + 15))
-    (parts : elements ≡ number ∷ rows) where
-  both : number ∷ rows ≡ number_on l q ∷ take 14 (drop (suc (slot q)) l)
-  both =
-      let many : slot q + 15 - slot q ≡ 15 = omega arith in
-      let h : slot q < length l = omega arith in sym parts ∙ is ∙ rw (many, drop-cons l (slot q) 0)
-
-  pub number_read : number ≡ number_on l q
-  number_read = let e = both in cc e
-
-  pub rows_read : number ≤ 14 → slice_range rows 0 number ≡ rows_on l q
-  unfolding rows_on
-  rows_read few =
-      let e = both in
-      let tail : rows ≡ take 14 (drop (suc (slot q)) l) = cc e in
-      rw (sub-zero, tail, take-take number 14 (drop (suc (slot q)) l) few, number_read, add-one (slot q))
-
-  pub on_read : (o : Option (Bor (List ℕ)))
-      → MatchOption o ((number < 0) ⊎ (length rows < number)) (λ on. (0 ≤ number) × (number ≤ length rows) × (on.now ≡ slice_range rows 0 number) × (length on.now + 0 ≡ number))
-      → IfSome o (λ on. (slot q + 15 ≤ length l) × (number_on l q ≤ 14) × (on.now ≡ rows_on l q))
-  on_read None m = tt
-  on_read (Some on) m =
-      let e = both in
-      let tail : rows ≡ take 14 (drop (suc (slot q)) l) = cc e in
-      let few : number ≤ 14 = omega (arith, m.1, ap length tail, length-take-le 14 (drop (suc (slot q)) l) (omega (arith, length-drop (suc (slot q)) l))) in
-      (long, omega (arith, number_read, few), m.2 ∙ rows_read few)
 
 ----------------------------------------------------------------------
 -- As many elements as before

@@ -65,6 +65,12 @@ pub fn rows_on(list: &[u16], q: Qubit) -> Option<&[u16]>
     ensures unlisted { IfNone result ((length list.now < slot q.0 + 15) ⊎ (14 < number_on list.now q.0)) }
 {
     let at = FIRST + EACH * (q.0 as usize);
-    let (number, rows) = list.get(at..at + EACH)?.split_first()?;
-    rows.get(..*number as usize)
+    if list.len() < at + EACH {
+        return None;
+    }
+    let number = list[at] as usize;
+    if 14 < number {
+        return None;
+    }
+    Some(&list[at + 1..at + 1 + number])
 }

@@ -87,11 +87,13 @@ pub fn find_dangling(count: u16, work: &mut [u64])
     }
     let all = count as usize;
     let mut total = 0;
+    let mut from = 0;
     for k in 0..8 {
-        let from = all.min(64 * k);
-        let word = dangling_word(from, all.min(from + 64), work);
+        let end = all.min(from + 64);
+        let word = dangling_word(from, end, work);
         work[FIRST + k] = word;
         total += word.count_ones() as u64;
+        from = end;
     }
     work[TOTAL] = total;
 }

@@ -50,6 +50,7 @@ fn put_correction(line: &mut Line<'_>, word: Word, correction: &[u8], n: u16)
 }
 
 // The four counts of a half.
+#[inline(always)]
 fn put_counts(line: &mut Line<'_>, half: HalfReport)
     ensures { Adds (count_text half) line.old line.new }
 {
@@ -60,6 +61,8 @@ fn put_counts(line: &mut Line<'_>, half: HalfReport)
 }
 
 // The line of a half.
+// Inlined, as the counts are: the place in the line then needs no memory.
+#[inline(always)]
 pub fn put_half(line: &mut Line<'_>, letter: u8, half: HalfReport, correction: &[u8], n: u16)
     ensures { Adds (half_line letter half correction.now n) line.old line.new }
 {

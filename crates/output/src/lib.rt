@@ -31,8 +31,10 @@ pub fn try_again(error: i32) -> bool
 {
     if error == EAGAIN {
         yield_now();
+        true
+    } else {
+        error == EINTR
     }
-    matches!(error, EAGAIN | EINTR)
 }
 
 // The number of the error of a read or a write. One that is not the system's has none, and counts as input or output that failed.

@@ -122,6 +122,8 @@ fn first_of(sizes: Sizes, kind: Pauli) -> usize
 }
 
 // A row that is lit or unread, of a kind, by its number within the kind.
+// Inlined, as `lose` is without a word: the reply then needs no memory.
+#[inline(always)]
 pub fn note_row(
     st: State,
     reading: RowReading,

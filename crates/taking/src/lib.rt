@@ -51,6 +51,8 @@ fn begin(
 }
 
 // Takes record after record, with lists for their decodes.
+// Inlined, so that the program's loop knows the lengths of its lists.
+#[inline(always)]
 fn all_records<E: Write>(
     errors: &mut E,
     mut p: Progress,

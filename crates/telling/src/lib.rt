@@ -25,6 +25,8 @@ fn tell_more<W: Write>(to: &mut W, t: Tally) {
 }
 
 // The first refusal of a run: the record's number, from 1, its offset, its kind, and what was refused.
+// Not inlined: the loop over records stays short.
+#[inline(never)]
 fn tell_first<W: Write>(to: &mut W, t: Tally, st: State, refusal: Refusal, bytes: &[u8]) {
     let record = t.records.saturating_add(1);
     let kind = reading::byte_at(bytes, 0);

@@ -10,3 +10,4 @@ pub mod SettlingQubit
 pub mod Peeling
 pub mod Running
 pub mod Trying
+pub mod Reopening

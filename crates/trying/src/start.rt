@@ -32,11 +32,12 @@ pub fn open_marked(half: &HalfRows<'_>, lists: &mut WorkingLists<'_>) -> Option<
     ensures opened { MarkedOpened half.now.n (rows_of half.now) (working lists.old) (working lists.new) result }
 {
     let mut total: u16 = 0;
+    let (ends, lit, rows) = (half.code.ends, half.lit, half.rows);
     for at in 0..half.n {
         if lists.marks[at as usize] == OPEN {
             let q = Qubit(at);
-            let on = incidence::rows_on(half.code.ends, q)?;
-            entries::open_rows(q, on, half.lit, half.rows, lists.work);
+            let on = incidence::rows_on(ends, q)?;
+            entries::open_rows(q, on, lit, rows, lists.work);
             total += 1;
         }
     }
@@ -56,8 +57,6 @@ pub fn reopen(n: usize, marks: &mut [u8])
     ensures { Filled (λ q. reopened (get_or marks.old q 0)) n marks.old marks.new }
 {
     for q in 0..n {
-        if marks[q] == PEELED {
-            marks[q] = OPEN;
-        }
+        marks[q] = if marks[q] == PEELED { OPEN } else { marks[q] };
     }
 }

@@ -1,8 +1,15 @@
 -- `incidence::rows_on` meets its contract. Assumes nothing.
-use Rattle.incidence.proofs.Noting.{on_read}
+use mathlib.Core.Path.{ap}
+use Prim.Native.Nat.{ℕ, ◌+◌}
+use native.Mathlib.Omega.{arith}
+use lib.ListN.{take, drop}
+use Rattle.incidence.specs.Incidence.{slot, rows_on}
 use Rattle.incidence.proofs.rows_on.Goals as goal
 
 pub returns-clause-listed : goal.returns-clause-listed
-returns-clause-listed c =
-    let a = c.in_ok-get.ensures.lookup.0 in
-    on_read _ _ _ _ _ a.1 a.2 c.in_ok-number.ensures.cases.0 _ c.get-2.ensures.lookup.0
+unfolding rows_on
+returns-clause-listed c = (
+  omega (arith, c.if-list-at.false),
+  omega (arith, c.if-number-gt14.false),
+  ap (λ (k : ℕ). take k (drop (slot c.args.q.0 + 1) c.args.list.now)) (omega arith),
+)
