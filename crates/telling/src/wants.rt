@@ -1,4 +1,6 @@
 // What a refusal wants.
+ghost use Rattle.std.specs.Prelude.{◌≡◌, ◌+◌};
+
 use reading::{byte_at, number};
 use records::{Phase, Refusal, Sizes, State};
 use std::fmt;
@@ -11,7 +13,10 @@ pub struct Loaded {
 }
 
 impl Loaded {
-    pub fn new(st: State) -> Loaded {
+    // Of a code that is being loaded: rows of both kinds are awaited.
+    pub fn new(st: State) -> Loaded
+        ensures { (result.rows ≡ st.rows) × (result.all ≡ st.sizes.x + st.sizes.z) }
+    {
         let sizes = st.sizes;
         Loaded {
             rows: st.rows,
